@@ -1,0 +1,90 @@
+-- Each answer is told by its number and values: two outcomes that a contract permits coincide.
+-- Assumes nothing.
+use Prim.Native.Nat.{ℕ, _≤_, _<_}
+use mathlib.Core.Path.{_≡_, refl, sym, ap, _∙_}
+use mathlib.Core.Bool.{cond}
+use mathlib.Core.List.{List}
+use mathlib.Core.Option.{Option, none, some}
+use lib.Dec.{eqb}
+use lib.ListN.{getD}
+use borrow.Author.Tests.{le-ltb, lt-ltb}
+use Rattle.records.specs.Answer.{Answer, refusalAnswer, filledAnswer, checkedAnswer, tooLong, badSpan, longest, spanRefusal, lengthRefusal}
+use Rattle.records.specs.declared.Refusal.{Refusal}
+use Rattle.records.specs.declared.Refusal.the-variants.{TooLong, BadSpan, BadState, BadTable, NoDate, BadMonth}
+use Rattle.records.specs.declared.Filled.{Filled}
+use Rattle.records.specs.declared.Filled.the-variants.{Done, Short, Refused}
+use Rattle.records.specs.declared.Checked.{Checked}
+use Rattle.records.specs.declared.Checked.the-variants as checked
+
+-- two outcomes with one answer are one, where the outcome can be read back from its answer
+pub coincide : {A B : Type 0} (answer : A → B) (back : B → A) → ((x : A) → back (answer x) ≡ x) → (b : B) (x y : A) → answer x ≡ b → answer y ≡ b → x ≡ y
+coincide answer back same b x y p q = sym (same x) ∙ ap back (p ∙ sym q) ∙ same y
+
+pub refusalBack : Answer → Refusal
+refusalBack a =
+    cond (eqb (a .number) 1) TooLong
+    (cond (eqb (a .number) 2) BadSpan
+    (cond (eqb (a .number) 3) BadState
+    (cond (eqb (a .number) 4) (BadTable (getD (a .values) 0 0) (getD (a .values) 1 0))
+    (cond (eqb (a .number) 5) NoDate BadMonth))))
+
+pub refusal-back : (r : Refusal) → refusalBack (refusalAnswer r) ≡ r
+unfolding refusalBack
+refusal-back TooLong = refl
+refusal-back BadSpan = refl
+refusal-back BadState = refl
+refusal-back (BadTable table entry) = refl
+refusal-back NoDate = refl
+refusal-back BadMonth = refl
+
+filledBack : Answer → Filled
+filledBack a =
+    cond (eqb (a .number) 0) (Done (getD (a .values) 0 0))
+    (cond (eqb (a .number) 7) (Short (getD (a .values) 0 0)) (Refused (refusalBack a)))
+
+filled-back : (r : Filled) → filledBack (filledAnswer r) ≡ r
+unfolding filledBack refusalBack
+filled-back (Done n) = refl
+filled-back (Short n) = refl
+filled-back (Refused TooLong) = refl
+filled-back (Refused BadSpan) = refl
+filled-back (Refused BadState) = refl
+filled-back (Refused (BadTable table entry)) = refl
+filled-back (Refused NoDate) = refl
+filled-back (Refused BadMonth) = refl
+
+checkedBack : Option Answer → Checked
+checkedBack none = checked.Good
+checkedBack (some a) = checked.Refused (refusalBack a)
+
+checked-back : (r : Checked) → checkedBack (checkedAnswer r) ≡ r
+unfolding checkedBack
+checked-back checked.Good = refl
+checked-back (checked.Refused r) = ap checked.Refused (refusal-back r)
+
+-- two outcomes of a call that the same contract permits
+pub filled-one : (a : Answer) (x y : Filled) → filledAnswer x ≡ a → filledAnswer y ≡ a → x ≡ y
+filled-one = coincide filledAnswer filledBack filled-back
+
+pub checked-one : (a : Option Answer) (x y : Checked) → checkedAnswer x ≡ a → checkedAnswer y ≡ a → x ≡ y
+checked-one = coincide checkedAnswer checkedBack checked-back
+
+-- when a span is refused, and that it is accepted exactly else
+module _ (len start end : ℕ) where
+  pub span-long : longest < len → some tooLong ≡ spanRefusal len start end
+  unfolding spanRefusal
+  span-long h = simp (lt-ltb _ _ h)
+
+  module _ (fits : len ≤ longest) where
+    pub span-order : end < start → some badSpan ≡ spanRefusal len start end
+    unfolding spanRefusal
+    span-order h = simp (le-ltb _ _ fits, lt-ltb _ _ h)
+
+    module _ (order : start ≤ end) where
+      pub span-past : len < end → some badSpan ≡ spanRefusal len start end
+      unfolding spanRefusal
+      span-past h = simp (le-ltb _ _ fits, le-ltb _ _ order, lt-ltb _ _ h)
+
+      pub span-good : end ≤ len → none ≡ spanRefusal len start end
+      unfolding spanRefusal
+      span-good h = simp (le-ltb _ _ fits, le-ltb _ _ order, le-ltb _ _ h)

@@ -1,0 +1,5 @@
+pub mod Laws
+pub mod ProducedLaws
+pub mod Laying
+pub mod Answers
+pub mod Texts
