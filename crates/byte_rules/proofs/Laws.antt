@@ -1,0 +1,47 @@
+-- What the crates above use of the byte rules.
+-- Assumes nothing.
+use Prim.Native.Nat.{ℕ, _+_, _≤_, _<_}
+use mathlib.Core.Path.{_≡_, refl}
+use mathlib.Core.Bool.{Bool, true, false, _&&_, cond}
+use mathlib.Core.List.{List}
+use native.Mathlib.Omega.{arith}
+use lib.Dec.{leb, eqb}
+use lib.ListN.{length}
+use borrow.Author.Tests.{le-leb, leb-true, ne-eqb}
+use Rattle.byte_rules.specs.Classes.{isBlank, isDigit, isCapital, isSmall}
+
+pub both : (a b : Bool) → (a && b) ≡ true → (a ≡ true) × (b ≡ true)
+both true true h = (refl, refl)
+both true false h = (refl, h)
+both false true h = (h, refl)
+both false false h = (h, h)
+
+-- the blanks that are spoken of by name
+pub space-is-blank : isBlank 32 ≡ true
+unfolding isBlank
+space-is-blank = refl
+
+pub lf-is-blank : isBlank 10 ≡ true
+unfolding isBlank
+lf-is-blank = refl
+
+-- every mark stands above the blanks
+pub not-blank : (c : ℕ) → 32 < c → isBlank c ≡ false
+unfolding isBlank
+not-blank c h = rw (ne-eqb c 9 (λ e. omega arith), ne-eqb c 10 (λ e. omega arith), ne-eqb c 12 (λ e. omega arith), ne-eqb c 13 (λ e. omega arith), ne-eqb c 32 (λ e. omega arith))
+
+pub digit-is : (c : ℕ) → isDigit c ≡ true → (48 ≤ c) × (c ≤ 57)
+unfolding isDigit
+digit-is c h = (leb-true 48 c (both _ _ h .0), leb-true c 57 (both (leb 48 c) _ h .1))
+
+pub digit-holds : (c : ℕ) → 48 ≤ c → c ≤ 57 → isDigit c ≡ true
+unfolding isDigit
+digit-holds c low high = rw (le-leb 48 c low, le-leb c 57 high)
+
+pub capital-is : (c : ℕ) → isCapital c ≡ true → (65 ≤ c) × (c ≤ 90)
+unfolding isCapital
+capital-is c h = (leb-true 65 c (both _ _ h .0), leb-true c 90 (both (leb 65 c) _ h .1))
+
+pub small-is : (c : ℕ) → isSmall c ≡ true → (97 ≤ c) × (c ≤ 122)
+unfolding isSmall
+small-is c h = (leb-true 97 c (both _ _ h .0), leb-true c 122 (both (leb 97 c) _ h .1))

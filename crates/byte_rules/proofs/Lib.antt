@@ -1,0 +1,3 @@
+pub mod Laws
+mod NameLaws
+mod CharLaws

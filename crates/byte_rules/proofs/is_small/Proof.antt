@@ -1,0 +1,13 @@
+use Rattle.byte_rules.specs.Classes.{isSmall}
+use mathlib.Core.Path.{refl}
+use Rattle.byte_rules.proofs.is_small.Statement.{statement}
+use Rattle.byte_rules.proofs.is_small.Tie as tie
+use Rattle.byte_rules.proofs.is_small.Reads as reads
+use Rattle.byte_rules.proofs.is_small.Lts as lts
+
+returns : tie.Need-returns
+unfolding isSmall
+returns c = refl
+
+pub is-small-spec : {M : Type 1} → statement M
+is-small-spec = tie.close (tie.spec returns)
