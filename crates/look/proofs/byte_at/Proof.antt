@@ -1,0 +1,19 @@
+use Rattle.look.proofs.Laws.{byte-test, byte-past}
+use mathlib.Core.Path.{sym}
+use borrow.Author.Needs.{needs}
+use Rattle.look.proofs.byte_at.Statement.{statement}
+use Rattle.look.proofs.byte_at.Tie as tie
+use Rattle.look.proofs.byte_at.Reads as reads
+use Rattle.look.proofs.byte_at.Lts as lts
+
+shared-slice-read-result : tie.Need-shared-slice-read-result
+shared-slice-read-result c = search needs
+
+returns : tie.Need-returns
+returns c = sym (byte-test _ _ _ (c .before .if1 .taken))
+
+returns-2 : tie.Need-returns-2
+returns-2 c = sym (byte-past _ _ _ (c .if1 .left))
+
+pub byte-at-spec : {M : Type 1} → statement M
+byte-at-spec = tie.close (tie.spec shared-slice-read-result returns returns-2)

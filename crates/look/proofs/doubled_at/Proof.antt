@@ -1,0 +1,29 @@
+use Rattle.look.proofs.Laws.{byte-past, doubled-not}
+use Rattle.look.specs.Look.{doubledAt}
+use mathlib.Core.Path.{sym}
+use borrow.Author.Needs.{needs}
+use Rattle.look.proofs.doubled_at.Statement.{statement}
+use Rattle.look.proofs.doubled_at.Tie as tie
+use Rattle.look.proofs.doubled_at.Reads as reads
+use Rattle.look.proofs.doubled_at.Lts as lts
+use Rattle.look.proofs.byte_at.Reads as byte-at-reads
+
+byte-at-requires : tie.Need-byte-at-requires
+byte-at-requires c κs = search needs
+
+add-byte-at : tie.Need-add-byte-at
+add-byte-at c = search needs
+
+byte-at-requires-2 : tie.Need-byte-at-requires-2
+byte-at-requires-2 c κs = search needs
+
+returns : tie.Need-returns
+unfolding doubledAt
+returns c = cc
+
+returns-2 : tie.Need-returns-2
+returns-2 c = sym (doubled-not _ _ _ (byte-past _ _ _ (c .if1 .left)))
+
+pub doubled-at-spec : {M : Type 1} → statement M
+doubled-at-spec =
+    tie.close (tie.spec byte-at-requires add-byte-at byte-at-requires-2 returns returns-2)
