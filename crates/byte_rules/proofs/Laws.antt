@@ -9,6 +9,7 @@ use lib.Dec.{leb, eqb}
 use lib.ListN.{length}
 use borrow.Author.Tests.{le-leb, leb-true, ne-eqb}
 use Rattle.byte_rules.specs.Classes.{isBlank, isDigit, isCapital, isSmall}
+use Rattle.byte_rules.specs.Reading.{barsNothing}
 
 pub both : (a b : Bool) → (a && b) ≡ true → (a ≡ true) × (b ≡ true)
 both true true h = (refl, refl)
@@ -45,3 +46,8 @@ capital-is c h = (leb-true 65 c (both _ _ h .0), leb-true c 90 (both (leb 65 c) 
 pub small-is : (c : ℕ) → isSmall c ≡ true → (97 ≤ c) × (c ≤ 122)
 unfolding isSmall
 small-is c h = (leb-true 97 c (both _ _ h .0), leb-true c 122 (both (leb 97 c) _ h .1))
+
+-- the Rust's reading bars no byte
+pub nothing-barred : (c : ℕ) → barsNothing c ≡ false
+unfolding barsNothing
+nothing-barred c = refl

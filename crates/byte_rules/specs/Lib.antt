@@ -1,3 +1,4 @@
+pub mod Text
 pub mod Classes
 pub mod Names
 pub mod Utf8

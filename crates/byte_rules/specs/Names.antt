@@ -3,6 +3,7 @@ use Prim.Native.Nat.{ℕ, _-_}
 use mathlib.Core.Bool.{Bool, true, false, cond, _&&_, _||_}
 use mathlib.Core.List.{List, [], _∷_}
 use lib.Dec.{leb, eqb}
+use Rattle.byte_rules.specs.Text.{bytes}
 use Rattle.byte_rules.specs.Classes.{isAlphanumeric, isSmall}
 
 -- . - _ and the alphanumeric bytes
@@ -32,5 +33,5 @@ isName (p ∷ ps) (c ∷ cs) = fitsSign p c && isName ps cs
 -- CON, PRN, AUX, NUL, COM1 to COM9, LPT1 to LPT9
 unfoldable pub isReservedName : List ℕ → Bool
 isReservedName name =
-    isName (67 ∷ 79 ∷ 78 ∷ []) name || isName (80 ∷ 82 ∷ 78 ∷ []) name || isName (65 ∷ 85 ∷ 88 ∷ []) name || isName (78 ∷ 85 ∷ 76 ∷ []) name
-    || isName (67 ∷ 79 ∷ 77 ∷ 49 ∷ []) name || isName (76 ∷ 80 ∷ 84 ∷ 49 ∷ []) name
+    isName (bytes "CON") name || isName (bytes "PRN") name || isName (bytes "AUX") name || isName (bytes "NUL") name
+    || isName (bytes "COM1") name || isName (bytes "LPT1") name

@@ -1,0 +1,4 @@
+pub mod Laws
+pub mod TagLaws
+pub mod PlainLaws
+mod RustLaws

@@ -1,0 +1,119 @@
+-- Plain bytes are stepped over: no mark stands at any place that the scan over them passes.
+-- Assumes nothing.
+use Prim.Native.Nat.{ℕ, zero, suc, _+_, _-_, _≤_, _<_}
+use mathlib.Core.Bool.{Bool, true, false, _&&_, _||_, not}
+use mathlib.Core.Path.{_≡_, refl, ap, _∙_, sym}
+use mathlib.Core.List.{List, _∷_}
+use native.Mathlib.Omega.{arith}
+use lib.Dec.{eqb}
+use lib.ListN.{length, getD}
+use Rattle.look.specs.Look.{byteAt}
+use Rattle.look.proofs.Laws.{holds-in, byte-test, doubled-not, word-not}
+use Rattle.scans.specs.Marks.{tick, tilde, lbracket, under, less, lf, cr, space}
+use Rattle.scans.specs.Ends.{opensTag, labelStopper, htmlMark, labelStep}
+use Rattle.scans.specs.Plain.{isMark, isLabelMark, markAt, plainStep, plainEnd, Lacks, Plain8}
+use Rattle.scans.specs.declared.Step.the-variants.{One, Stop}
+use Rattle.scans.proofs.Laws.{by-less, clash, scan-one, scan-stop, scan-le, over}
+
+or-left : (a b : Bool) → (a || b) ≡ false → a ≡ false
+or-left true b h = h
+or-left false b h = refl
+
+or-right : (a b : Bool) → (a || b) ≡ false → b ≡ false
+or-right true b h = clash h refl
+or-right false b h = h
+
+-- one byte more
+pub lacks-more : (s : List ℕ) (i k b : ℕ) (found : Bool) → (found ≡ false → Lacks s i k b) → (found || eqb (getD s (i + k) 0) b) ≡ false → Lacks s i (k + 1) b
+lacks-more s i k b found f h j l =
+    by-less j k
+    (λ g. f (or-left found (eqb (getD s (i + k) 0) b) h) j g)
+    (λ g. let z : j ≡ k = omega arith in rw z (or-right found (eqb (getD s (i + k) 0) b) h))
+
+-- none of six tests
+pub record Free (a b c d e f : Bool) : Type 0 where
+  pub not-1 : a ≡ false
+  pub not-2 : b ≡ false
+  pub not-3 : c ≡ false
+  pub not-4 : d ≡ false
+  pub not-5 : e ≡ false
+  pub not-6 : f ≡ false
+
+pub free : (a b c d e f : Bool) → (a || b || c || d || e || f) ≡ false → Free a b c d e f
+free true b c d e f h = clash h refl
+free false true c d e f h = clash h refl
+free false false true d e f h = clash h refl
+free false false false true e f h = clash h refl
+free false false false false true f h = clash h refl
+free false false false false false f h = record { not-1 = refl; not-2 = refl; not-3 = refl; not-4 = refl; not-5 = refl; not-6 = h }
+
+pub none : {a b c d e f : Bool} → Free a b c d e f → (a || b || c || d || e || f) ≡ false
+none r = rw (r .not-1, r .not-2, r .not-3, r .not-4, r .not-5, r .not-6)
+
+module _ (s : List ℕ) (k : ℕ) (h : k < length s) where
+  byte-not : (b : ℕ) → eqb (getD s k 0) b ≡ false → byteAt s k b ≡ false
+  byte-not b n = byte-test s k b h ∙ n
+
+  mark-test : markAt s k ≡ isMark (getD s k 0)
+  unfolding markAt
+  mark-test = holds-in isMark s k h
+
+  pub mark-not : isMark (getD s k 0) ≡ false → markAt s k ≡ false
+  mark-not n = mark-test ∙ n
+
+  pub plain-one : markAt s k ≡ false → plainStep s k ≡ One
+  unfolding plainStep
+  plain-one n = rw (plainStep, n)
+
+  pub mark-stop : isMark (getD s k 0) ≡ true → plainStep s k ≡ Stop
+  unfolding plainStep
+  mark-stop t = rw (plainStep, mark-test ∙ t)
+
+  -- at a plain byte stands none of the marks
+  pub mark-free : markAt s k ≡ false → Free (byteAt s k tick) (byteAt s k less) (byteAt s k tilde) (byteAt s k lbracket) (byteAt s k lf) (byteAt s k under)
+  unfolding isMark
+  mark-free n =
+      let b = getD s k 0 in
+      let f = free (eqb b tick) (eqb b less) (eqb b tilde) (eqb b lbracket) (eqb b lf) (eqb b under) (sym mark-test ∙ n) in
+      record { not-1 = byte-not tick (f .not-1); not-2 = byte-not less (f .not-2); not-3 = byte-not tilde (f .not-3); not-4 = byte-not lbracket (f .not-4); not-5 = byte-not lf (f .not-5); not-6 = byte-not under (f .not-6) }
+
+  -- in a label the rule steps over a byte that is none of its marks
+  pub label-one : isLabelMark (getD s k 0) ≡ false → labelStep s k ≡ One
+  unfolding isLabelMark labelStep labelStopper opensTag htmlMark
+  label-one n =
+      let b = getD s k 0 in
+      let f = free (eqb b lbracket) (eqb b tick) (eqb b less) (eqb b lf) (eqb b cr) (eqb b space) n in
+      let x : byteAt s k lbracket ≡ false = byte-not lbracket (f .not-1) in
+      let y : byteAt s k tick ≡ false = byte-not tick (f .not-2) in
+      rw (labelStep, doubled-not s k lbracket x, doubled-not s k tick y, labelStopper, byte-not space (f .not-6), byte-not cr (f .not-5), byte-not lf (f .not-4), y, opensTag, x, htmlMark, word-not s k less _ (byte-not less (f .not-3)), word-not s k less _ (byte-not less (f .not-3)))
+
+pub plain-8 : (s : List ℕ) (i : ℕ) → i + 8 ≤ length s → Lacks s i 8 tick → Lacks s i 8 less → Lacks s i 8 tilde → Lacks s i 8 lbracket → Lacks s i 8 lf → Lacks s i 8 under → Plain8 s i
+unfolding isMark
+plain-8 s i w a b c d e f =
+    record {
+      within = w;
+      none = λ k l. mark-not s (i + k) (omega arith) (none (record { not-1 = a k l; not-2 = b k l; not-3 = c k l; not-4 = d k l; not-5 = e k l; not-6 = f k l }));
+    }
+
+-- eight plain bytes are stepped over
+pub over-8 : (s : List ℕ) (i : ℕ) → Plain8 s i → plainEnd s i ≡ plainEnd s (i + 8)
+over-8 s i p = over (plainStep s) (length s) 8 i (p .within) (λ k l. let w : i + 8 ≤ length s = p .within in plain-one s (i + k) (omega arith) (p .none k l))
+
+-- every place that the scan over plain bytes passes is plain
+module _ (s : List ℕ) where
+  plain-turn : (i : ℕ) (b : Bool) → markAt s i ≡ b → i < length s → (k : ℕ) → i ≤ k → k < plainEnd s i → ((k : ℕ) → i + 1 ≤ k → k < plainEnd s (i + 1) → markAt s k ≡ false) → markAt s k ≡ false
+  unfolding plainStep
+  plain-turn i true m h k a l on =
+      let z : plainEnd s i ≡ i = scan-stop (plainStep s) (length s) i h (rw (plainStep, m)) in
+      absurd (let y : ⊥ = omega arith in y)
+  plain-turn i false m h k a l on =
+      let z : plainEnd s i ≡ plainEnd s (i + 1) = scan-one (plainStep s) (length s) i h (rw (plainStep, m)) in
+      by-less i k (λ g. on k (omega arith) (omega arith)) (λ g. let y : k ≡ i = omega arith in rw y m)
+
+  plain-from : (n i : ℕ) → length s ≤ i + n → (k : ℕ) → i ≤ k → k < plainEnd s i → markAt s k ≡ false
+  plain-from zero i e k a l = absurd (let y : ⊥ = omega (arith, scan-le (plainStep s) (length s) i) in y)
+  plain-from (suc n) i e k a l =
+      plain-turn i (markAt s i) refl (omega (arith, scan-le (plainStep s) (length s) i)) k a l (plain-from n (i + 1) (omega arith))
+
+  pub plain-passed : (i k : ℕ) → i ≤ k → k < plainEnd s i → markAt s k ≡ false
+  plain-passed i k a l = plain-from (length s) i (omega arith) k a l

@@ -1,0 +1,24 @@
+use native.Mathlib.Omega.{arith}
+use borrow.Author.Tests.{ne-eqb}
+use mathlib.Core.Path.{refl, sym}
+use Rattle.scans.specs.Plain.{isMark}
+use Rattle.scans.proofs.Laws.{or-false}
+use Rattle.scans.proofs.plain.is_mark.Statement.{statement}
+use Rattle.scans.proofs.plain.is_mark.Tie as tie
+use Rattle.scans.proofs.plain.is_mark.Reads as reads
+use Rattle.scans.proofs.plain.is_mark.Lts as lts
+
+returns : tie.Need-returns
+unfolding isMark
+returns c = let b = c .before .args .c in rw (isMark, ne-eqb b 96 (λ e. omega arith), ne-eqb b 60 (λ e. omega arith), ne-eqb b 91 (λ e. omega arith), ne-eqb b 10 (λ e. omega arith), ne-eqb b 95 (λ e. omega arith)) (simp or-false)
+
+returns-2 : tie.Need-returns-2
+unfolding isMark
+returns-2 c = let b = c .before .before .args .c in rw (isMark, ne-eqb b 60 (λ e. omega arith), ne-eqb b 126 (λ e. omega arith), ne-eqb b 10 (λ e. omega arith)) (simp or-false)
+
+returns-3 : tie.Need-returns-3
+unfolding isMark
+returns-3 c = let b = c .before .before .args .c in rw (isMark, ne-eqb b 96 (λ e. omega arith), ne-eqb b 126 (λ e. omega arith), ne-eqb b 91 (λ e. omega arith), ne-eqb b 95 (λ e. omega arith)) (simp or-false)
+
+pub is-mark-spec : {M : Type 1} → statement M
+is-mark-spec = tie.close (tie.spec returns returns-2 returns-3)

@@ -1,0 +1,5 @@
+pub mod Marks
+pub mod Scan
+pub mod Ends
+pub mod Plain
+pub mod Notes
