@@ -1,3 +1,3 @@
--- The laws of `decimal`, which the crates above use.
+-- The laws that the crates above use.
 pub mod Laws
-mod Putting
+pub mod Over

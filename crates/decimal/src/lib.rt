@@ -1,13 +1,13 @@
 // Numbers in decimal digits, most significant first.
 use records::Filled;
 ghost use mathlib.Core.Path.{_≡_};
-ghost use mathlib.Core.List.{_++_};
 ghost use mathlib.Core.Option.{none};
 ghost use Prim.Native.Nat.{_≤_};
-ghost use lib.ListN.{length, drop};
+ghost use lib.ListN.{length};
 ghost use Rattle.records.specs.Answer.{filledAnswer};
 ghost use Rattle.records.specs.Records.{textAnswer, textLeft};
 ghost use Rattle.decimal.specs.Decimal.{decimal};
+ghost use Rattle.decimal.specs.Over.{over};
 
 // How many digits n is written with.
 pub fn decimal_len(n: u64) -> usize
@@ -21,7 +21,7 @@ pub fn decimal_len(n: u64) -> usize
 fn put_digits(out: &mut [u8], n: u64) -> usize
     requires { ⌜ length (decimal n) ≤ length (now out) ⌝ }
     ensures count { λ r. ⌜ r ≡ length (decimal n) ⌝ }
-    ensures left { λ r. ⌜ now (out .exit) ≡ decimal n ++ drop (length (decimal n)) (now (out .entry)) ⌝ }
+    ensures left { λ r. ⌜ now (out .exit) ≡ over (decimal n) (now (out .entry)) ⌝ }
 {
     if n < 10 {
         out[0] = b'0' + n as u8;

@@ -1,12 +1,15 @@
 -- `put_digits` meets its contract. The measure is the number itself, which the call divides by ten.
 -- Assumes nothing.
-use mathlib.Core.Path.{sym}
+use mathlib.Core.Path.{refl, sym}
+use mathlib.Core.List.{[]}
 use native.Mathlib.Omega.{arith}
 use lib.ListN.{length-set}
 use denote.Ref.{now}
-use Rattle.decimal.proofs.Laws.{length-small, length-more}
-use Rattle.decimal.proofs.Putting.{put-small, put-more}
-use Prim.Native.Nat.{ℕ, _<_}
+use Rattle.decimal.proofs.Laws.{decimal-small, decimal-more, length-small, length-more}
+use Rattle.decimal.proofs.Over.{over-more}
+use Rattle.decimal.specs.Decimal.{decimal}
+use Rattle.decimal.specs.Over.{over}
+use Prim.Native.Nat.{ℕ, _+_, _/_, _%_, _<_}
 use borrow.Fn.Kinds.{In}
 use borrow.Fn.PlainCycle.{Measures, is, falls, and}
 use Rattle.decimal.proofs.put_digits.Reads as put-digits
@@ -54,10 +57,11 @@ put-digits-returns : (t : ℕ) → put-digits-lts.Need-returns (
   put-digits-below t,
   put-digits.Post,
 ) (put-digits-at t) put-digits.Post
+unfolding over
 put-digits-returns t c =
     let a = c .before .before .args in
     let one = length-small (a .n) (c .if1 .taken) in
-    (sym one, put-small (now (a .out)) (a .n) (c .if1 .taken) (omega (arith, one)))
+    (sym one, rw (decimal-small (a .n) (c .if1 .taken)) (over-more [] (now (a .out)) (48 + a .n) 0 refl (omega (arith, one))))
 
 put-digits-put-digits-requires : (t : ℕ) → put-digits-lts.Need-put-digits-requires (
   put-digits-below t,
@@ -113,7 +117,8 @@ put-digits-returns-2 t c =
     let large = c .before .before .before .before .if1 .left in
     let more = length-more (s .args .n) large in (
       omega (arith, r .ensures .0, more),
-      rw (r .ensures .1) (put-more (now (s .args .out)) (s .args .n) (r .result) large (r .ensures .0) (omega (arith, s .pre .1, r .ensures .0, more))),
+      rw (r .ensures .1, decimal-more (s .args .n) large)
+          (over-more (decimal (s .args .n / 10)) (now (s .args .out)) (48 + s .args .n % 10) (r .result) (r .ensures .0) (omega (arith, s .pre .1, r .ensures .0, more))),
     )
 
 pub +put-digits-spec : {M : Type 1} → statement M

@@ -5,8 +5,9 @@ use mathlib.Core.Option.{none}
 use native.Mathlib.Omega.{arith}
 use denote.Ref.{now}
 use borrow.Author.Needs.{needs}
-use Rattle.records.proofs.Texts.{told-short, told-done}
+use Rattle.records.proofs.Texts.{told-short}
 use Rattle.decimal.specs.Decimal.{decimal}
+use Rattle.decimal.proofs.Over.{over-done}
 use Rattle.decimal.proofs.put_decimal.Statement.{statement}
 use Rattle.decimal.proofs.put_decimal.Tie as tie
 
@@ -28,8 +29,7 @@ returns-2 : tie.Need-returns-2
 returns-2 c =
     let a = c .before .before .before .before .before .before .before .args in
     let r = c .before .before .put-digits in
-    told-done (r .result) none (decimal (a .n)) (now (a .out)) refl (r .ensures .0) (omega arith) (r .last .0)
-    (rw (r .ensures .0) (r .ensures .1))
+    over-done (r .result) none (decimal (a .n)) (now (a .out)) (r .last .0) refl (r .ensures .0) (omega arith) (r .ensures .1)
 
 pub put-decimal-spec : {M : Type 1} → statement M
 put-decimal-spec =

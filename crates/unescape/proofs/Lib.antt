@@ -1,0 +1,4 @@
+-- Laws: what the crates above use of unescaping.
+pub mod Laws
+mod Writing
+mod Spans

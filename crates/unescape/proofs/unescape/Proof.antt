@@ -1,0 +1,68 @@
+-- `unescape::unescape` meets its contract: its answer and the room are those of a text call with the span's refusal.
+-- Assumes nothing.
+use native.Mathlib.Omega.{arith}
+use borrow.Author.Needs.{needs}
+use Rattle.records.proofs.Texts.{told-refused, told-short, told-done}
+use Rattle.unescape.proofs.Spans.{span-inside}
+use Rattle.unescape.proofs.unescape.Statement.{statement}
+use Rattle.unescape.proofs.unescape.Tie as tie
+
+check-span-requires : tie.Need-check-span-requires
+check-span-requires c κs = search needs
+
+enum-known-why : tie.Need-enum-known-why
+enum-known-why c = search needs
+
+returns : tie.Need-returns
+returns c = told-refused _ _ _ _ (rw (c .before .why .given .1) at (c .before .before .before .check-span .ensures))
+
+enum-told : tie.Need-enum-told
+enum-told c = search needs
+
+sub-text : tie.Need-sub-text
+sub-text c = span-inside _ _ _ (rw (c .enum-told .given .1) at (c .before .before .check-span .ensures)) .0
+
+part-text-start : tie.Need-part-text-start
+part-text-start c = span-inside _ _ _ (rw (c .enum-told .given .1) at (c .before .before .check-span .ensures)) .0
+
+part-text-end : tie.Need-part-text-end
+part-text-end c = span-inside _ _ _ (rw (c .enum-told .given .1) at (c .before .before .check-span .ensures)) .1
+
+unescaped-len-requires : tie.Need-unescaped-len-requires
+unescaped-len-requires c κs = search needs
+
+returns-2 : tie.Need-returns-2
+returns-2 c =
+    let told = c .before .before .before in
+    told-short _ _ _ _ (rw (told .enum-told .given .1) at (told .before .before .check-span .ensures)) (c .before .unescaped-len .ensures) (c .if1 .taken)
+
+put-unescaped-requires : tie.Need-put-unescaped-requires
+put-unescaped-requires c κs = search needs
+
+same-length : tie.Need-same-length
+same-length c = search needs
+
+returns-3 : tie.Need-returns-3
+returns-3 c =
+    let put = c .before .before in
+    let len = put .before .before .before in
+    let told = len .before .before in
+    told-done _ _ _ _ (rw (told .enum-told .given .1) at (told .before .before .check-span .ensures)) (len .unescaped-len .ensures)
+    (omega arith) _ (rw (len .unescaped-len .ensures) (put .put-unescaped .ensures))
+
+pub unescape-spec : {M : Type 1} → statement M
+unescape-spec =
+    tie.close
+    (tie.spec
+    check-span-requires
+    enum-known-why
+    returns
+    enum-told
+    sub-text
+    part-text-start
+    part-text-end
+    unescaped-len-requires
+    returns-2
+    put-unescaped-requires
+    same-length
+    returns-3)

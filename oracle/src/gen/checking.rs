@@ -1,0 +1,87 @@
+//! Cases for the comment check against lent tables (ops T and C).
+use super::comments;
+use super::names::any_table;
+use super::sink::{span_case, Sink};
+use super::texts::{any_span, each_sequence, each_span, each_text, mutated};
+use super::Plan;
+use crate::cases::Case;
+
+const SYMBOLS: &[&str] = &["", "a", "`", "a`b", "ph", "->", "(", ")", "x", "_a"];
+const LABELS: &[&str] = &["a", "ax-1", "mp2", "x[A]", "a[b", "a`", "idi", "aa", "1__2", "a~"];
+const TAGS: &[&str] = &["", "a", "A", "TakeutiZaring", "a``b"];
+
+fn lend_all(sink: &mut Sink) {
+    sink.lend(1, SYMBOLS);
+    sink.lend(2, LABELS);
+    sink.lend(3, TAGS);
+}
+
+/// Every text over the alphabets, a piece shorter than for the events, and what a neighbour past the span changes.
+pub fn exhaustive(plan: &Plan, sink: &mut Sink) {
+    sink.put_roomed(span_case(b'C', b"` a ` ~ b [c]", 0, 13));
+    lend_all(sink);
+    each_text(plan.either(-1, 0), &mut |text, a, b| sink.put_roomed(span_case(b'C', text, a, b)));
+    sink.lend_no_bibliography();
+    each_text(-2, &mut |text, a, b| sink.put_roomed(span_case(b'C', text, a, b)));
+    sink.lend(3, TAGS);
+    // HTML marks in any case, in text, labels and tags
+    let html: &[&[u8]] = &[b"<html>", b"</HTML>", b"<HtMl>", b"<HTML>", b"~ ", b"[", b"]", b"a", b" ", b"<html"];
+    each_sequence(html, plan.either(4, 5), &mut |text| sink.put_roomed(span_case(b'C', text, 0, text.len())));
+    // each escape beside each mark, in every span
+    let escapes: &[&[u8]] = &[b"`", b"~", b"[", b"_", b"]", b" ", b"a"];
+    each_sequence(escapes, plan.either(4, 5), &mut |text| {
+        each_span(text.len(), &mut |a, b| sink.put_roomed(span_case(b'C', text, a, b)));
+    });
+    for byte in 0..=255u8 {
+        for template in ["a`?a `", "a` a?`", "?` a `", "` a `?", "?~ a", "~?a", "~ a?", "[?]", "~ a?b ", "<htm?>", "?"]
+        {
+            let text: Vec<u8> = template.bytes().map(|c| if c == b'?' { byte } else { c }).collect();
+            sink.put_roomed(span_case(b'C', &text, 0, text.len()));
+        }
+    }
+}
+
+/// Comments with structure, with and without a bibliography, with every room now and then.
+pub fn random(plan: &Plan, sink: &mut Sink) {
+    lend_all(sink);
+    for round in 0..plan.either(60_000, 2_000_000) {
+        if round % 1000 == 999 {
+            if sink.rng.percent(50) {
+                sink.lend(3, TAGS);
+            } else {
+                sink.lend_no_bibliography();
+            }
+        }
+        let mut text = comments::comment(&mut sink.rng);
+        if sink.rng.percent(30) {
+            text = mutated(&mut sink.rng, &text);
+        }
+        let (a, b) = any_span(&mut sink.rng, text.len());
+        let case = span_case(b'C', &text, a, b);
+        if round % 50 == 0 {
+            sink.put_every_room(case);
+        } else {
+            sink.put_roomed(case);
+        }
+    }
+}
+
+/// Malformed tables of each number, several at once, with spans that are refused or not.
+pub fn malformed(plan: &Plan, sink: &mut Sink) {
+    for _ in 0..plan.either(12_000, 300_000) {
+        let number = 1 + sink.rng.below(3) as u8;
+        let lent = any_table(&mut sink.rng, number);
+        sink.put(&lent);
+        match sink.rng.below(6) {
+            0 => sink.lend_no_bibliography(),
+            1 => sink.lend(1, SYMBOLS),
+            2 => sink.lend(2, LABELS),
+            3 => sink.lend(3, TAGS),
+            _ => {}
+        }
+        let text = comments::comment(&mut sink.rng);
+        let (a, b) = any_span(&mut sink.rng, text.len());
+        let room = [0, 4, 64][sink.rng.below(3)];
+        sink.put(&Case { room, ..span_case(b'C', &text, a, b) });
+    }
+}

@@ -1,0 +1,116 @@
+//! The case generator: named streams, each for one op (and T, where the op needs tables), the same at every run.
+//! A new op gets a file here, its streams in `STREAMS`, its lines in promises.txt and its cases in stored.rs.
+pub mod bad;
+pub mod checking;
+pub mod comments;
+pub mod credits;
+pub mod database;
+pub mod dates;
+pub mod limits;
+pub mod names;
+pub mod parsing;
+pub mod random;
+pub mod sink;
+pub mod stepping;
+pub mod stored;
+pub mod stored_comments;
+pub mod texts;
+pub mod unescaping;
+
+use database::Mm;
+use sink::Sink;
+
+/// What a run of the generator is given.
+pub struct Plan<'a> {
+    /// The long run: deeper and more.
+    pub long: bool,
+    /// A Metamath database, for the streams that read one.
+    pub mm: Option<&'a Mm>,
+}
+
+impl Plan<'_> {
+    /// One number for the short run, another for the long one.
+    pub fn either<T>(&self, short: T, long: T) -> T {
+        if self.long {
+            long
+        } else {
+            short
+        }
+    }
+}
+
+/// A named stream: the ops that its cases have, whether it reads a database, and its maker.
+pub struct Stream {
+    pub name: &'static str,
+    pub ops: &'static str,
+    pub reads_mm: bool,
+    pub make: fn(&Plan, &mut Sink),
+}
+
+const fn plain(name: &'static str, ops: &'static str, make: fn(&Plan, &mut Sink)) -> Stream {
+    Stream { name, ops, reads_mm: false, make }
+}
+
+const fn of_mm(name: &'static str, ops: &'static str, make: fn(&Plan, &mut Sink)) -> Stream {
+    Stream { name, ops, reads_mm: true, make }
+}
+
+pub const STREAMS: &[Stream] = &[
+    plain("L-strings", "L", names::label_strings),
+    of_mm("L-database", "L", database::labels),
+    plain("L-limits", "L", limits::labels),
+    plain("R-strings", "R", names::reserved_strings),
+    plain("R-limits", "R", limits::reserved),
+    plain("U-exhaustive", "U", unescaping::exhaustive),
+    plain("U-random", "U", unescaping::random),
+    plain("U-limits", "U", limits::unescaping),
+    of_mm("U-database", "U", database::unescaping),
+    plain("D-dates", "D", dates::read),
+    plain("D-mutated", "D", dates::read_mutated),
+    plain("D-limits", "D", limits::dates),
+    plain("K-dates", "K", dates::calendar),
+    plain("O-dates", "O", dates::order),
+    plain("W-dates", "W", dates::written),
+    plain("V-forged", "V", unescaping::forged),
+    plain("V-limits", "V", limits::parser_unescaping),
+    plain("E-exhaustive", "E", parsing::exhaustive),
+    plain("E-bytes", "E", parsing::bytes),
+    plain("E-random", "E", parsing::random),
+    plain("E-rooms", "E", parsing::rooms),
+    plain("E-limits", "E", limits::events),
+    of_mm("E-database", "E", database::events),
+    of_mm("E-mutated", "E", database::events_mutated),
+    plain("S-exhaustive", "S", stepping::exhaustive),
+    plain("S-random", "S", stepping::random),
+    plain("S-walks", "S", stepping::walks),
+    plain("S-limits", "S", limits::steps),
+    plain("P-words", "P", credits::words_listed),
+    plain("P-mutated", "P", credits::mutated_listed),
+    plain("P-random", "P", credits::random_listed),
+    plain("P-limits", "P", limits::parentheticals),
+    of_mm("P-database", "P", database::parentheticals),
+    of_mm("P-database-mutated", "P", database::parentheticals_mutated),
+    plain("Q-words", "Q", credits::words_stepped),
+    plain("Q-mutated", "Q", credits::mutated_stepped),
+    plain("Q-limits", "Q", limits::credit_steps),
+    of_mm("Q-database", "Q", database::parentheticals_stepped),
+    plain("F-words", "F", credits::words_flagged),
+    plain("F-mutated", "F", credits::mutated_flagged),
+    plain("F-limits", "F", limits::flags),
+    of_mm("F-database", "F", database::flags),
+    plain("N-tables", "TN", names::lookups),
+    plain("N-malformed", "TN", names::malformed_lookups),
+    plain("N-limits", "TN", limits::lookups),
+    of_mm("N-database", "TN", database::lookups),
+    plain("C-exhaustive", "TC", checking::exhaustive),
+    plain("C-random", "TC", checking::random),
+    plain("C-malformed", "TC", checking::malformed),
+    plain("C-limits", "TC", limits::checks),
+    of_mm("C-database", "TC", database::checks),
+    of_mm("C-mutated", "TC", database::checks_mutated),
+];
+
+/// The streams whose every op is among these.
+pub fn streams_for(ops: &str) -> impl Iterator<Item = &'static Stream> + '_ {
+    STREAMS.iter().filter(move |s| s.ops.chars().all(|op| ops.contains(op)))
+}

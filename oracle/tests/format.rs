@@ -1,0 +1,106 @@
+//! What is ours and not the crate's: refusals and their order, rooms, tables, and what is no case.
+use oracle::cases::{Case, Next};
+use oracle::gen::{bad, sink::table, stepping::state_bytes};
+use oracle::{ops, tables::Tables};
+
+/// The answers to a run of cases, as the program prints them.
+fn run(input: &[u8]) -> String {
+    let (mut rest, mut out) = (input, vec![]);
+    let (mut case, mut tables) = (Case::default(), Tables::default());
+    loop {
+        let good = match case.read(&mut rest).unwrap() {
+            Next::End => break,
+            Next::Bad => None,
+            Next::Case => ops::answer(&case, &mut tables, &mut out),
+        };
+        if good.is_none() {
+            out.extend_from_slice(b"bad case\n");
+            break;
+        }
+    }
+    String::from_utf8(out).unwrap().replace('\t', " ")
+}
+
+fn run_cases(cases: &[Case]) -> String {
+    let mut input = vec![];
+    cases.iter().for_each(|c| c.write(&mut input).unwrap());
+    run(&input)
+}
+
+fn case(op: u8, a: u32, b: u32, room: u32, text: &[u8]) -> Case {
+    Case { op, a, b, room, payload: text.to_vec(), ..Case::default() }
+}
+
+#[test]
+fn bad_inputs_end_the_run() {
+    for input in bad::inputs() {
+        assert_eq!(run(&input.input), "L 0 1\nbad case\n", "{}", input.name);
+    }
+}
+
+#[test]
+fn records_that_fit() {
+    assert_eq!(run_cases(&[case(b'E', 0, 3, 0, b"a`b")]), "E 7 3\n");
+    assert_eq!(run_cases(&[case(b'E', 0, 3, 11, b"a`b")]), "E 7 3\n1 0 0 1\n3 1 1 1\n");
+    assert_eq!(run_cases(&[case(b'E', 0, 3, 12, b"a`b")]), "E 0 3\n1 0 0 1\n3 1 1 1\n5 2 2 3\n");
+    assert_eq!(run_cases(&[case(b'E', 0, 4, 12, b"a`b")]), "E 2 0\n");
+    assert_eq!(run_cases(&[case(b'P', 2, 1, 12, b"a`b")]), "P 2 0\n");
+    assert_eq!(run_cases(&[case(b'Q', 2, 1, 12, b"a`b")]), "Q 2 0 0\n");
+}
+
+#[test]
+fn texts_that_fit() {
+    assert_eq!(run_cases(&[case(b'U', 0, 2, 1, b"~~")]), "U 0 1 7e\n");
+    assert_eq!(run_cases(&[case(b'U', 0, 2, 0, b"~~")]), "U 7 1\n");
+    assert_eq!(run_cases(&[case(b'U', 2, 2, 0, b"~~")]), "U 0 0 -\n");
+    assert_eq!(run_cases(&[case(b'U', 2, 3, 0, b"~~")]), "U 2\n");
+    let date = |b, room| Case { op: b'W', a: 7, b, c: 1, room, ..Case::default() };
+    assert_eq!(
+        run_cases(&[date(1, 10), date(0, 0), date(13, 10), date(1, 9)]),
+        "W 0 10 312d4a616e2d30303037\nW 6\nW 6\nW 7 10\n"
+    );
+}
+
+#[test]
+fn states() {
+    let state = |end, pos| [&state_bytes([end, pos, 0, 0, 0, 0, 0, 0, u32::MAX, 0])[..], b"a~~"].concat();
+    let steps = |end, pos, c| run_cases(&[Case { op: b'S', c, payload: state(end, pos), ..Case::default() }]);
+    assert_eq!(steps(3, 4, 1), "S 3 0 0\nstate 3 4 0 0 0 0 0 0 4294967295 0\n");
+    assert_eq!(steps(4, 0, 1), "S 3 0 0\nstate 4 0 0 0 0 0 0 0 4294967295 0\n");
+    assert_eq!(steps(4, 0, 0), "S 0 0 0\nstate 4 0 0 0 0 0 0 0 4294967295 0\n");
+    assert_eq!(steps(3, 0, 9), "S 0 1 1\n1 0 0 3\nstate 3 3 0 0 0 0 0 0 4294967295 0\n");
+    let call = |end, pos, b, room| run_cases(&[case(b'V', 0, b, room, &state(end, pos))]);
+    assert_eq!(call(3, 3, 3, 2), "V 0 2 617e\n");
+    assert_eq!(call(3, 3, 3, 1), "V 7 2\n");
+    assert_eq!(call(2, 3, 3, 1), "V 2\n");
+    assert_eq!(call(2, 3, 2, 1), "V 3\n");
+    assert_eq!(call(4, 0, 4, 1), "V 2\n");
+}
+
+#[test]
+fn tables_and_their_first_bad_entry() {
+    let look = |ends: &[u32], bytes: &[u8], name: &[u8]| {
+        run_cases(&[table(2, ends, bytes), Case { op: b'N', flag: 2, payload: name.to_vec(), ..Case::default() }])
+    };
+    assert_eq!(look(&[0, 1, 3], b"aab", b""), "N 0 1\n");
+    assert_eq!(look(&[1, 3], b"aab", b"ab"), "N 0 1\n");
+    assert_eq!(look(&[1, 3], b"aab", b"b"), "N 0 0\n");
+    assert_eq!(look(&[1, 2], b"aa", b"a"), "N 4 1 1\n");
+    assert_eq!(look(&[0, 0], b"", b""), "N 4 1 1\n");
+    assert_eq!(look(&[1, 0], b"a", b""), "N 4 1 1\n");
+    assert_eq!(look(&[1, 3], b"ab", b""), "N 4 1 1\n");
+    assert_eq!(look(&[1, 2], b"abc", b""), "N 4 1 2\n");
+    assert_eq!(look(&[], b"a", b""), "N 4 1 0\n");
+}
+
+#[test]
+fn the_check_tells_the_lowest_refusal() {
+    let bad = |number| table(number, &[], b"a");
+    let none = Case { op: b'T', ..Case::default() };
+    let tag = case(b'C', 0, 3, 4, b"[a]");
+    let lent = [bad(3), tag.clone(), bad(2), tag.clone(), none.clone(), tag.clone(), table(2, &[], b""), tag.clone()];
+    assert_eq!(run_cases(&lent), "C 4 3 0\nC 4 2 0\nC 4 2 0\nC 0 0\n");
+    assert_eq!(run_cases(&[bad(1), case(b'C', 0, 4, 0, b"[a]")]), "C 2 0\n");
+    assert_eq!(run_cases(&[table(3, &[], b""), tag.clone()]), "C 0 1\n8 1 2 0\n");
+    assert_eq!(run_cases(&[none, tag]), "C 0 0\n");
+}

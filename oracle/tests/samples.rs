@@ -1,0 +1,103 @@
+//! The samples of document 01, marked or not, run through the oracle.
+use oracle::cases::Case;
+use oracle::{ops, tables::Tables};
+
+fn run(case: &Case) -> String {
+    let mut out = vec![];
+    ops::answer(case, &mut Tables::default(), &mut out).expect("a case");
+    String::from_utf8(out).unwrap().replace('\t', " ")
+}
+
+/// A case of a span with room for everything.
+fn span_case(op: u8, text: &str, a: usize, b: usize) -> Case {
+    Case { op, a: a as u32, b: b as u32, room: 4096, payload: text.into(), ..Case::default() }
+}
+
+/// The records of a span, without the head line, whose answer is 0 and whose count fits.
+fn records(op: u8, text: &str, a: usize, b: usize) -> Vec<String> {
+    let answer = run(&span_case(op, text, a, b));
+    let mut lines = answer.lines().map(str::to_string);
+    let head = lines.next().unwrap();
+    let rest: Vec<String> = lines.collect();
+    assert_eq!(head, format!("{} 0 {}", op as char, rest.len()), "{text:?}");
+    rest
+}
+
+fn events(text: &str, want: &[&str]) {
+    assert_eq!(records(b'E', text, 0, text.len()), want, "{text:?}");
+}
+
+fn credits(text: &str, want: &[&str]) {
+    assert_eq!(records(b'P', text, 0, text.len()), want, "{text:?}");
+}
+
+fn date(text: &str, want: &str) {
+    assert_eq!(run(&Case { op: b'D', payload: text.into(), ..Case::default() }), format!("D {want}\n"), "{text:?}");
+}
+
+#[test]
+fn short_comments() {
+    events("", &[]);
+    events("[]", &["14 1 1 1"]);
+    events("[a ]", &["1 0 0 4"]);
+    events("~", &["6 0 1 1"]);
+    events("~ mmx", &["7 0 2 5"]);
+    events("\n\n\n", &["1 0 0 1", "2 1 1 1", "1 1 1 2", "2 2 2 2", "1 2 2 3"]);
+    events("( `a` )", &["1 0 0 1", "3 2 2 2", "5 3 3 4", "4 4 4 4", "1 6 6 7"]);
+}
+
+#[test]
+fn subscript_over_math() {
+    let want = ["1 0 0 1", "10 1 1 1", "1 2 2 3", "3 3 3 3", "5 4 4 5", "11 5 5 5", "5 5 5 7", "4 7 7 7"];
+    events("x_0`b.c`", &want);
+}
+
+#[test]
+fn byte_before_the_span() {
+    assert_eq!(records(b'E', "a_b_", 1, 4), ["10 1 1 1", "1 2 2 3", "11 3 3 3", "1 3 3 4"]);
+    assert_eq!(records(b'E', " _b_", 1, 4), ["12 1 1 1", "1 2 2 3", "13 3 3 3"]);
+}
+
+#[test]
+fn dates() {
+    date("+5xFebx+123", "0 123 2 5 1");
+    date("+-Jan-2020", "5");
+    date("1-Jan-202", "5");
+    date("01-Jan-20201", "5");
+}
+
+#[test]
+fn credit_samples() {
+    let slipped = "(Contributed by Ann (Revised by Bob, 2-Feb-2020.)";
+    credits(slipped, &["1 0 49 16 35 37 47"]);
+    credits("(Contributed by  , 1-Jan-2020.)", &["1 0 31 16 17 19 29"]);
+    credits("(Contributed by , 1-Jan-2020.)", &[]);
+}
+
+#[test]
+fn escape_past_the_span() {
+    assert_eq!(records(b'C', "a__", 0, 2), Vec::<String>::new());
+    assert_eq!(records(b'C', "a_", 0, 2), ["2 1 0 0"]);
+}
+
+/// After Text(0,4) the mode has turned: the parser's own call keeps both underscores.
+#[test]
+fn unescape_after_the_mode_turned() {
+    let text = b"a__b<HTML>";
+    let state = |words: [u32; 10]| words.iter().flat_map(|w| w.to_le_bytes()).collect::<Vec<u8>>();
+    let fresh = state([10, 0, 0, 0, 0, 0, 0, 0, u32::MAX, 0]);
+    let step = Case { op: b'S', c: 1, payload: [&fresh[..], text].concat(), ..Case::default() };
+    assert_eq!(run(&step), "S 0 1 0\n1 0 0 4\nstate 10 10 0 1 8 4 4 4 4294967295 0\n");
+    let turned = state([10, 10, 0, 1, 8, 4, 4, 4, u32::MAX, 0]);
+    let payload = [&turned[..], text].concat();
+    let call = Case { op: b'V', b: 4, room: 16, payload, ..Case::default() };
+    assert_eq!(run(&call), "V 0 4 615f5f62\n");
+    let plain = Case { op: b'U', b: 4, room: 16, payload: text.to_vec(), ..Case::default() };
+    assert_eq!(run(&plain), "U 0 3 615f62\n");
+}
+
+#[test]
+fn listing() {
+    let want = ["1 0 0 1", "10 1 1 1", "1 2 2 3", "11 3 3 3", "1 3 3 4", "6 4 6 11"];
+    events("x_0 ~ ax-1.", &want);
+}
