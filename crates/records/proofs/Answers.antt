@@ -2,13 +2,14 @@
 -- Assumes nothing.
 use Prim.Native.Nat.{ℕ, _≤_, _<_}
 use mathlib.Core.Path.{_≡_, refl, sym, ap, _∙_}
-use mathlib.Core.Bool.{cond}
+use mathlib.Core.Bool.{Bool, true, false, cond, _||_}
 use mathlib.Core.List.{List}
+use native.Mathlib.Omega.{arith}
 use mathlib.Core.Option.{Option, none, some}
-use lib.Dec.{eqb}
+use lib.Dec.{ltb, eqb}
 use lib.ListN.{getD}
-use borrow.Author.Tests.{le-ltb, lt-ltb}
-use Rattle.records.specs.Answer.{Answer, refusalAnswer, filledAnswer, checkedAnswer, tooLong, badSpan, longest, spanRefusal, lengthRefusal}
+use borrow.Author.Tests.{le-ltb, lt-ltb, ltb-false}
+use Rattle.records.specs.Answer.{Answer, refusalAnswer, filledAnswer, checkedAnswer, tooLong, badSpan, longest, badState, spanRefusal, stateRefusal}
 use Rattle.records.specs.declared.Refusal.{Refusal}
 use Rattle.records.specs.declared.Refusal.the-variants.{TooLong, BadSpan, BadState, BadTable, NoDate, BadMonth}
 use Rattle.records.specs.declared.Filled.{Filled}
@@ -69,6 +70,13 @@ filled-one = coincide filledAnswer filledBack filled-back
 pub checked-one : (a : Option Answer) (x y : Checked) → checkedAnswer x ≡ a → checkedAnswer y ≡ a → x ≡ y
 checked-one = coincide checkedAnswer checkedBack checked-back
 
+-- none of the tests of a refusal held
+none-held : (x y : Answer) (a b c : Bool) → cond a (some x) (cond (b || c) (some y) none) ≡ none → (a ≡ false) × (b ≡ false) × (c ≡ false)
+none-held x y true b c h = let z : _≡_ {A = ℕ} 0 1 = cc in absurd (omega arith)
+none-held x y false true c h = let z : _≡_ {A = ℕ} 0 1 = cc in absurd (omega arith)
+none-held x y false false true h = let z : _≡_ {A = ℕ} 0 1 = cc in absurd (omega arith)
+none-held x y false false false h = (refl, refl, refl)
+
 -- when a span is refused, and that it is accepted exactly else
 module _ (len start end : ℕ) where
   pub span-long : longest < len → some tooLong ≡ spanRefusal len start end
@@ -88,3 +96,33 @@ module _ (len start end : ℕ) where
       pub span-good : end ≤ len → none ≡ spanRefusal len start end
       unfolding spanRefusal
       span-good h = simp (le-ltb _ _ fits, le-ltb _ _ order, le-ltb _ _ h)
+
+-- the same for a state
+module _ (len pos end : ℕ) where
+  pub state-long : longest < len → some tooLong ≡ stateRefusal len pos end
+  unfolding stateRefusal
+  state-long h = simp (lt-ltb _ _ h)
+
+  module _ (fits : len ≤ longest) where
+    pub state-order : end < pos → some badState ≡ stateRefusal len pos end
+    unfolding stateRefusal
+    state-order h = simp (le-ltb _ _ fits, lt-ltb _ _ h)
+
+    module _ (order : pos ≤ end) where
+      pub state-past : len < end → some badState ≡ stateRefusal len pos end
+      unfolding stateRefusal
+      state-past h = simp (le-ltb _ _ fits, le-ltb _ _ order, lt-ltb _ _ h)
+
+      pub state-good : end ≤ len → none ≡ stateRefusal len pos end
+      unfolding stateRefusal
+      state-good h = simp (le-ltb _ _ fits, le-ltb _ _ order, le-ltb _ _ h)
+
+-- what is not refused
+module _ (len start end : ℕ) where
+  pub span-accepted : spanRefusal len start end ≡ none → (len ≤ longest) × (start ≤ end) × (end ≤ len)
+  unfolding spanRefusal
+  span-accepted h = let n = none-held tooLong badSpan (ltb longest len) (ltb end start) (ltb len end) h in (ltb-false _ _ (n .0), ltb-false _ _ (n .1), ltb-false _ _ (n .2))
+
+  pub state-accepted : stateRefusal len start end ≡ none → (len ≤ longest) × (start ≤ end) × (end ≤ len)
+  unfolding stateRefusal
+  state-accepted h = let n = none-held tooLong badState (ltb longest len) (ltb end start) (ltb len end) h in (ltb-false _ _ (n .0), ltb-false _ _ (n .1), ltb-false _ _ (n .2))

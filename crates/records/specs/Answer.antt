@@ -80,3 +80,7 @@ lengthRefusal len = cond (ltb longest len) (some tooLong) none
 -- the refusal of a span of a buffer of so many bytes; the lowest number
 unfoldable pub spanRefusal : ℕ → ℕ → ℕ → Option Answer
 spanRefusal len start end = cond (ltb longest len) (some tooLong) (cond (ltb end start || ltb len end) (some badSpan) none)
+
+-- the refusal of a state at `pos` that reads to `end`, of a buffer of so many bytes; the lowest number
+unfoldable pub stateRefusal : ℕ → ℕ → ℕ → Option Answer
+stateRefusal len pos end = cond (ltb longest len) (some tooLong) (cond (ltb end pos || ltb len end) (some badState) none)

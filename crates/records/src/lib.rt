@@ -4,7 +4,7 @@ ghost use mathlib.Core.List.{[], _∷_};
 ghost use mathlib.Core.Option.{none};
 ghost use lib.ListN.{length};
 ghost use lib.Dec.{leb};
-ghost use Rattle.records.specs.Answer.{checkedAnswer, spanRefusal};
+ghost use Rattle.records.specs.Answer.{checkedAnswer, spanRefusal, stateRefusal};
 ghost use Rattle.records.specs.Records.{put, laid, wroteOf};
 
 // Why a call refuses its input: document 01's numbers 1 to 6, in its order.
@@ -45,6 +45,19 @@ pub fn check_span(len: usize, start: usize, end: usize) -> Checked
     }
     if (end < start) | (len < end) {
         return Checked::Refused(Refusal::BadSpan);
+    }
+    Checked::Good
+}
+
+// A state at `pos` that reads to `end`, of a buffer of `len` bytes: 1 if the buffer is too long, 3 if the state is none of it.
+pub fn check_state(len: usize, pos: usize, end: usize) -> Checked
+    ensures { λ r. ⌜ checkedAnswer r ≡ stateRefusal len pos end ⌝ }
+{
+    if 4294967295 < len {
+        return Checked::Refused(Refusal::TooLong);
+    }
+    if (end < pos) | (len < end) {
+        return Checked::Refused(Refusal::BadState);
     }
     Checked::Good
 }

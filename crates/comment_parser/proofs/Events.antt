@@ -1,0 +1,85 @@
+-- The list of events, an event at a time, in any reading; and that an accepted state leads to accepted states alone.
+-- Assumes nothing.
+use Prim.Native.Nat.{ℕ, _≤_, _<_}
+use mathlib.Core.Path.{_≡_, refl, ap, sym, _∙_}
+use mathlib.Core.List.{List, [], _∷_}
+use mathlib.Core.Option.{Option, none, some}
+use native.Mathlib.Omega.{arith}
+use lib.ListN.{length}
+use Rattle.records.specs.Answer.{Answer, bare, stateRefusal, longest}
+use Rattle.records.specs.Produced.{grow, produced}
+use Rattle.records.proofs.Answers.{state-accepted, state-good}
+use Rattle.records.proofs.ProducedLaws.{produced-step}
+use Rattle.byte_rules.specs.Reading.{Reading}
+use Rattle.comment_parser.specs.Next.{Step, stepAnswer, answered, nextOf}
+use Rattle.comment_parser.specs.Events.{left, paired, seen, eventsFrom}
+use Rattle.comment_parser.specs.declared.ParserState.{ParserState}
+use Rattle.comment_parser.specs.declared.CommentItem.{CommentItem}
+use Rattle.comment_parser.specs.declared.Next.{Next}
+use Rattle.comment_parser.specs.declared.Next.the-variants.{Event, End, Refused}
+use Rattle.comment_parser.proofs.Progress.{GoesOn, answered-on}
+
+-- a state that `next` takes
+pub record Accepted (buf : List ℕ) (st : ParserState) : Type 0 where
+  pub short : length buf ≤ longest
+  pub inside : st .pos ≤ st .end
+  pub fits : st .end ≤ length buf
+
+module _ (rd : Reading) (buf : List ℕ) (st : ParserState) where
+  -- what the answer to an accepted state is
+  pub next-is : Accepted buf st → nextOf rd buf st ≡ stepAnswer (answered rd buf st)
+  unfolding nextOf
+  next-is a = rw (nextOf, ← state-good (length buf) (st .pos) (st .end) (a .short) (a .inside) (a .fits))
+
+  refused-none : (r : Option Answer) → stateRefusal (length buf) (st .pos) (st .end) ≡ r → (p : CommentItem × ParserState)
+      → seen rd buf st ≡ some p → stateRefusal (length buf) (st .pos) (st .end) ≡ none
+  unfolding seen nextOf
+  refused-none none e p h = e
+  refused-none (some a) e p h =
+      let f : paired none st ≡ some p = rw (nextOf, e) at h in
+      let z : _≡_ {A = ℕ} 0 1 = cc in
+      absurd (omega arith)
+
+  -- a state that gives an event is accepted
+  pub seen-accepted : (p : CommentItem × ParserState) → seen rd buf st ≡ some p → Accepted buf st
+  seen-accepted p h =
+      let a = state-accepted (length buf) (st .pos) (st .end) (refused-none (stateRefusal (length buf) (st .pos) (st .end)) refl p h) in
+      record { short = a .0; inside = a .1; fits = a .2 }
+
+  seen-is : Accepted buf st → seen rd buf st ≡ paired (stepAnswer (answered rd buf st) .event) (stepAnswer (answered rd buf st) .state)
+  unfolding seen
+  seen-is a = rw (next-is a)
+
+  -- the answer to an accepted state that gives an event
+  pub seen-event : (i : CommentItem) (t : ParserState) → Accepted buf st → answered rd buf st ≡ Event i t → seen rd buf st ≡ some (i, t)
+  seen-event i t a e = seen-is a ∙ rw e
+
+  from-next : (n : Next) → answered rd buf st ≡ n → (p : CommentItem × ParserState) → paired (stepAnswer n .event) (stepAnswer n .state) ≡ some p → answered rd buf st ≡ Event (p .0) (p .1)
+  from-next (Event i t) e p h = e ∙ (let x : (i, t) ≡ p = cc in rw (← x))
+  from-next (End t) e p h = let z : _≡_ {A = ℕ} 0 1 = cc in absurd (omega arith)
+  from-next (Refused r t) e p h = let z : _≡_ {A = ℕ} 0 1 = cc in absurd (omega arith)
+
+  pub seen-answered : (p : CommentItem × ParserState) → seen rd buf st ≡ some p → answered rd buf st ≡ Event (p .0) (p .1)
+  seen-answered p h = from-next (answered rd buf st) refl p (sym (seen-is (seen-accepted p h)) ∙ h)
+
+  -- an event keeps the end, moves on, and leaves less to come
+  pub seen-on : (p : CommentItem × ParserState) → seen rd buf st ≡ some p → GoesOn st (p .1)
+  seen-on p h = let a = seen-accepted p h in answered-on rd buf st (a .inside) (a .fits) (p .0) (p .1) (seen-answered p h)
+
+module _ (rd : Reading) (buf : List ℕ) where
+  -- from an accepted state `next` never refuses later
+  pub stays-accepted : (st : ParserState) (p : CommentItem × ParserState) → seen rd buf st ≡ some p → Accepted buf (p .1)
+  stays-accepted st p h =
+      let a = seen-accepted rd buf st p h in
+      let g = seen-on rd buf st p h in
+      record { short = a .short; inside = g .within; fits = rw (g .same-end) (a .fits) }
+
+  pub events-step : (st : ParserState) → eventsFrom rd buf st ≡ grow (seen rd buf st) (eventsFrom rd buf)
+  unfolding eventsFrom
+  events-step = produced-step (seen rd buf) left (λ st p h. seen-on rd buf st p h .less)
+
+  pub events-on : (st : ParserState) (i : CommentItem) (t : ParserState) → seen rd buf st ≡ some (i, t) → eventsFrom rd buf st ≡ i ∷ eventsFrom rd buf t
+  events-on st i t h = events-step st ∙ rw h
+
+  pub events-end : (st : ParserState) → seen rd buf st ≡ none → eventsFrom rd buf st ≡ []
+  events-end st h = events-step st ∙ rw h

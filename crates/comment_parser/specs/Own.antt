@@ -1,0 +1,14 @@
+-- The parser's own unescape calls: over a span that the state reaches, in the state's present mode.
+use Prim.Native.Nat.{ℕ}
+use mathlib.Core.Bool.{cond, _||_}
+use mathlib.Core.Option.{Option, none, some}
+use lib.Dec.{ltb}
+use Rattle.records.specs.Answer.{Answer, longest, tooLong, badSpan, badState}
+use Rattle.comment_parser.specs.declared.ParserState.{ParserState}
+
+-- 2 is also given when the span ends past the state's end; the lowest number first
+unfoldable pub ownRefusal : ℕ → ParserState → ℕ → ℕ → Option Answer
+ownRefusal len st start end =
+    cond (ltb longest len) (some tooLong)
+    (cond (ltb end start || ltb len end || ltb (st .end) end) (some badSpan)
+    (cond (ltb (st .end) (st .pos) || ltb len (st .end)) (some badState) none))

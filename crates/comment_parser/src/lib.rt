@@ -1,0 +1,333 @@
+// The parser of comment markup: its item type, its state, and the call that gives the next event. Positions are places in the buffer.
+mod own;
+mod pass;
+mod rules;
+
+use pass::read_on;
+use records::Checked;
+use records::Refusal;
+use records::check_state;
+use scans::Note;
+ghost use mathlib.Core.Path.{_≡_};
+ghost use lib.ListN.{take};
+ghost use Rattle.byte_rules.specs.Reading.{rust};
+ghost use Rattle.scans.specs.Notes.{Holds};
+ghost use Rattle.comment_parser.specs.Item.{placedOf};
+ghost use Rattle.comment_parser.specs.State.{moved, inMath, inHtml, italicTo, subscriptTo, fresh};
+ghost use Rattle.comment_parser.specs.Next.{stepAnswer, give, nextOf};
+ghost use Rattle.comment_parser.specs.Notes.{Answers};
+
+pub struct Span {
+    pub start: usize,
+    pub end: usize,
+}
+
+// An event of a comment: a text or token by its span, a mark by its place, a label or url by its tilde's place and its span.
+pub enum CommentItem {
+    Text(Span),
+    LineBreak(usize),
+    StartMathMode(usize),
+    EndMathMode(usize),
+    MathToken(Span),
+    Label(usize, Span),
+    Url(usize, Span),
+    StartHtml(usize),
+    EndHtml(usize),
+    StartSubscript(usize),
+    EndSubscript(usize),
+    StartItalic(usize),
+    EndItalic(usize),
+    BibTag(Span),
+}
+
+// An item as its record: kind, place, start, end.
+pub struct Placed {
+    pub kind: u32,
+    pub place: usize,
+    pub start: usize,
+    pub end: usize,
+}
+
+impl CommentItem {
+    pub const TEXT: u32 = 1;
+
+    pub const LINE_BREAK: u32 = 2;
+
+    pub const START_MATH_MODE: u32 = 3;
+
+    pub const END_MATH_MODE: u32 = 4;
+
+    pub const MATH_TOKEN: u32 = 5;
+
+    pub const LABEL: u32 = 6;
+
+    pub const URL: u32 = 7;
+
+    pub const START_HTML: u32 = 8;
+
+    pub const END_HTML: u32 = 9;
+
+    pub const START_SUBSCRIPT: u32 = 10;
+
+    pub const END_SUBSCRIPT: u32 = 11;
+
+    pub const START_ITALIC: u32 = 12;
+
+    pub const END_ITALIC: u32 = 13;
+
+    pub const BIB_TAG: u32 = 14;
+
+    // A span alone has its start as place; a place alone has start and end equal to it.
+    pub fn placed(self) -> Placed
+        ensures { λ r. ⌜ r ≡ placedOf self ⌝ }
+    {
+        match self {
+            CommentItem::Text(s) => Placed {
+                kind: CommentItem::TEXT,
+                place: s.start,
+                start: s.start,
+                end: s.end,
+            },
+            CommentItem::LineBreak(a) => Placed {
+                kind: CommentItem::LINE_BREAK,
+                place: a,
+                start: a,
+                end: a,
+            },
+            CommentItem::StartMathMode(a) => Placed {
+                kind: CommentItem::START_MATH_MODE,
+                place: a,
+                start: a,
+                end: a,
+            },
+            CommentItem::EndMathMode(a) => Placed {
+                kind: CommentItem::END_MATH_MODE,
+                place: a,
+                start: a,
+                end: a,
+            },
+            CommentItem::MathToken(s) => Placed {
+                kind: CommentItem::MATH_TOKEN,
+                place: s.start,
+                start: s.start,
+                end: s.end,
+            },
+            CommentItem::Label(a, s) => Placed {
+                kind: CommentItem::LABEL,
+                place: a,
+                start: s.start,
+                end: s.end,
+            },
+            CommentItem::Url(a, s) => Placed {
+                kind: CommentItem::URL,
+                place: a,
+                start: s.start,
+                end: s.end,
+            },
+            CommentItem::StartHtml(a) => Placed {
+                kind: CommentItem::START_HTML,
+                place: a,
+                start: a,
+                end: a,
+            },
+            CommentItem::EndHtml(a) => Placed {
+                kind: CommentItem::END_HTML,
+                place: a,
+                start: a,
+                end: a,
+            },
+            CommentItem::StartSubscript(a) => Placed {
+                kind: CommentItem::START_SUBSCRIPT,
+                place: a,
+                start: a,
+                end: a,
+            },
+            CommentItem::EndSubscript(a) => Placed {
+                kind: CommentItem::END_SUBSCRIPT,
+                place: a,
+                start: a,
+                end: a,
+            },
+            CommentItem::StartItalic(a) => Placed {
+                kind: CommentItem::START_ITALIC,
+                place: a,
+                start: a,
+                end: a,
+            },
+            CommentItem::EndItalic(a) => Placed {
+                kind: CommentItem::END_ITALIC,
+                place: a,
+                start: a,
+                end: a,
+            },
+            CommentItem::BibTag(s) => Placed {
+                kind: CommentItem::BIB_TAG,
+                place: s.start,
+                start: s.start,
+                end: s.end,
+            },
+        }
+    }
+}
+
+// An event that waits to be given.
+pub enum Waiting {
+    Item(CommentItem),
+    Nothing,
+}
+
+// Where a parser stands: the end it reads to, its position, its modes, the event that waits, and the noted ends of an italic and a subscript.
+pub struct ParserState {
+    pub end: usize,
+    pub pos: usize,
+    pub math: bool,
+    pub html: bool,
+    pub waiting: Waiting,
+    pub end_italic: usize,
+    pub end_subscript: usize,
+}
+
+// What a rule says: step one, step two, end the run at a place, with the state after it, or that there is no more.
+pub enum Act {
+    One,
+    Two,
+    Ends(usize, ParserState),
+    NoMore,
+}
+
+// What a rule says, and the note about tags as it stands then.
+pub struct Acted {
+    pub act: Act,
+    pub note: Note,
+}
+
+// A run's end, and the state after it.
+pub struct Run {
+    pub end: usize,
+    pub after: ParserState,
+}
+
+pub enum Next {
+    Event(CommentItem, ParserState),
+    End(ParserState),
+    Refused(Refusal, ParserState),
+}
+
+// A run, and the note as it stands after it.
+pub struct RunNoted {
+    pub run: Run,
+    pub note: Note,
+}
+
+// An answer, and the note to go on with.
+pub struct NextNoted {
+    pub next: Next,
+    pub note: Note,
+}
+
+impl ParserState {
+    // No italic end is noted: the largest number, which is no place of a buffer.
+    pub const NO_ITALIC: usize = 18446744073709551615;
+
+    // The state of a parser that has yet to read the places from start to end.
+    pub fn new(start: usize, end: usize) -> Self
+        ensures { λ r. ⌜ r ≡ fresh start end ⌝ }
+    {
+        Self {
+            end,
+            pos: start,
+            math: false,
+            html: false,
+            waiting: Waiting::Nothing,
+            end_italic: ParserState::NO_ITALIC,
+            end_subscript: 0,
+        }
+    }
+
+    // At another place, with what waits.
+    pub(crate) fn moved(self, pos: usize, waiting: Waiting) -> Self
+        ensures { λ r. ⌜ r ≡ moved self pos waiting ⌝ }
+    {
+        Self {
+            end: self.end,
+            pos,
+            math: self.math,
+            html: self.html,
+            waiting,
+            end_italic: self.end_italic,
+            end_subscript: self.end_subscript,
+        }
+    }
+
+    pub(crate) fn in_math(mut self, on: bool) -> Self
+        ensures { λ r. ⌜ r ≡ inMath self on ⌝ }
+    {
+        self.math = on;
+        self
+    }
+
+    pub(crate) fn in_html(mut self, on: bool) -> Self
+        ensures { λ r. ⌜ r ≡ inHtml self on ⌝ }
+    {
+        self.html = on;
+        self
+    }
+
+    pub(crate) fn italic_to(mut self, p: usize) -> Self
+        ensures { λ r. ⌜ r ≡ italicTo self p ⌝ }
+    {
+        self.end_italic = p;
+        self
+    }
+
+    pub(crate) fn subscript_to(mut self, p: usize) -> Self
+        ensures { λ r. ⌜ r ≡ subscriptTo self p ⌝ }
+    {
+        self.end_subscript = p;
+        self
+    }
+
+    // The next event, or the end, with a note on tags that an earlier call over the same text gave, or `Note::nothing()`: if it holds, the answer is
+    // that of `next`, and the note given back holds.
+    pub fn next_noted(self, buf: &[u8], note: Note) -> NextNoted
+        ensures { λ r. ⌜ (Holds (take (self .end) (now (buf .entry))) note → Answers (take (self .end) (now (buf .entry))) (nextOf rust (now (buf .entry)) self) r) ⌝ }
+    {
+        let end = self.end;
+        let pos = self.pos;
+        if let Checked::Refused(why) = check_state(buf.len(), pos, end) {
+            return NextNoted {
+                next: Next::Refused(why, self),
+                note,
+            };
+        }
+        let waiting = self.waiting;
+        match waiting {
+            Waiting::Item(_) => NextNoted {
+                next: give(self),
+                note,
+            },
+            Waiting::Nothing => read_on(&buf[..end], self, note),
+        }
+    }
+
+    // The next event, or the end. Refused are a buffer that is too long (1), and a state whose position is past its end or
+    // whose end is past the buffer's (3), with the state as given.
+    pub fn next(self, buf: &[u8]) -> Next
+        ensures { λ r. ⌜ stepAnswer r ≡ nextOf rust (now (buf .entry)) self ⌝ }
+    {
+        let noted = self.next_noted(buf, Note::nothing());
+        noted.next
+    }
+}
+
+// Gives what waits, or ends.
+fn give(st: ParserState) -> Next
+    ensures { λ r. ⌜ r ≡ give st ⌝ }
+{
+    let waiting = st.waiting;
+    let pos = st.pos;
+    match waiting {
+        Waiting::Item(item) => Next::Event(item, st.moved(pos, Waiting::Nothing)),
+        Waiting::Nothing => Next::End(st),
+    }
+}

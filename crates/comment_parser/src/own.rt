@@ -1,0 +1,1 @@
+// The parser's own unescape calls, over a span of the text that it reads.
