@@ -1,3 +1,13 @@
+use Prim.Native.Nat.{ℕ, _≤_}
+use mathlib.Core.Path.{_≡_, sym, _∙_, ap}
+use Rattle.records.specs.Answer.{checkedAnswer, stateRefusal, longest}
+use Rattle.records.specs.declared.Checked.{Checked}
+use Rattle.records.specs.declared.Checked.the-variants.{Good}
+use Rattle.records.proofs.Answers.{state-accepted}
+use lib.Seq.{length-take-le}
+use native.Mathlib.Omega.{arith}
+use borrow.Author.Needs.{needs}
+use Rattle.comment_parser.specs.Next.{nextOf, answered}
 use Rattle.comment_parser.proofs.ParserState.next_noted.Statement.{statement}
 use Rattle.comment_parser.proofs.ParserState.next_noted.Tie as tie
 use Rattle.comment_parser.proofs.ParserState.next_noted.Reads as reads
@@ -6,48 +16,45 @@ use Rattle.comment_parser.proofs.give.Reads as give-reads
 use Rattle.comment_parser.proofs.pass.read_on.Reads as read-on-reads
 use Rattle.records.proofs.check_state.Reads as check-state-reads
 
--- src/lib.rt:296:40
+-- what a check that found nothing tells
+accepted : (r : Checked) (len pos end : ℕ) → checkedAnswer r ≡ stateRefusal len pos end → r ≡ Good → (len ≤ longest) × (pos ≤ end) × (end ≤ len)
+accepted r len pos end h e = state-accepted len pos end (sym h ∙ rw e)
+
 check-state-requires : tie.Need-check-state-requires
-check-state-requires c κs = ?
+check-state-requires c κs = search needs
 
--- src/lib.rt:296:33
 enum-known-why : tie.Need-enum-known-why
-enum-known-why c = ?
+enum-known-why c = search needs
 
--- src/lib.rt:297:13
 returns : tie.Need-returns
-returns c = ?
+unfolding nextOf
+returns c = λ h. record { is = rw (nextOf, ← c .before .before .before .check-state .ensures, c .before .why .given .1); holds = h }
 
 enum-told : tie.Need-enum-told
-enum-told c = ?
+enum-told c = search needs
 
--- src/lib.rt:305:23
 enum-told-2 : tie.Need-enum-told-2
-enum-told-2 c = ?
+enum-told-2 c = search needs
 
--- src/lib.rt:305:23
 give-requires : tie.Need-give-requires
-give-requires c κs = ?
+give-requires c κs = search needs
 
--- src/lib.rt:308:41
 enum-told-3 : tie.Need-enum-told-3
-enum-told-3 c = ?
+enum-told-3 c = search needs
 
--- src/lib.rt:308:41
 slice-aggregate-read-on : tie.Need-slice-aggregate-read-on
-slice-aggregate-read-on c = ?
+slice-aggregate-read-on c = sym (length-take-le _ _ (accepted (c .before .before .before .before .before .check-state .result) _ _ _ (c .before .before .before .before .before .check-state .ensures) (c .before .before .before .enum-told .given .1) .2))
 
--- src/lib.rt:308:33
 read-on-requires : tie.Need-read-on-requires
-read-on-requires c κs = ?
+read-on-requires c κs = let a = accepted (c .before .before .before .before .before .check-state .result) _ _ _ (c .before .before .before .before .before .check-state .ensures) (c .before .before .before .enum-told .given .1) in rw (length-take-le _ _ (a .2)) (a .1)
 
--- src/lib.rt:291:5
 returns-2 : tie.Need-returns-2
-returns-2 c = ?
+unfolding nextOf answered
+returns-2 c = λ h. record { is = rw (nextOf, ← c .before .before .before .before .before .check-state .ensures, c .before .before .before .enum-told .given .1, answered, c .before .enum-told2 .given .1, c .give .ensures); holds = h }
 
--- src/lib.rt:291:5
 returns-3 : tie.Need-returns-3
-returns-3 c = ?
+unfolding nextOf answered
+returns-3 c = λ h. let r = c .read-on .ensures h in record { is = rw (nextOf, ← c .before .before .before .before .before .before .check-state .ensures, c .before .before .before .before .enum-told .given .1, answered, c .before .before .enum-told3 .given .1, ← r .is); holds = r .holds }
 
 pub next-noted-spec : {M : Type 1} → statement M
 next-noted-spec =

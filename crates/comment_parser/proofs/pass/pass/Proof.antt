@@ -63,6 +63,15 @@ enum-known-act c = search needs
 returns-2 : tie.Need-returns-2 Inv-loop μ-loop
 returns-2 c = λ h. let here = c .before .before .before .before .before .before .before .loop .inv .1 h in let t = c .before .before .before .before .pass-act .ensures (here .1) in let says = sym (c .before .act .given .1) ∙ t .is in record { is = sym (ended _ _ _ _ _ (omega arith) (here .0 ∙ c .before .before .before .before .before .before .skip .ensures .over _ ∙ scan-stop _ _ _ (omega arith) (step-is _ _ _ _ _ _ says)) _ _ says); holds = t .holds }
 
+enum-told-3 : tie.Need-enum-told-3 Inv-loop μ-loop
+enum-told-3 c = search needs
+
+moved-requires-2 : tie.Need-moved-requires-2 Inv-loop μ-loop
+moved-requires-2 c κs = search needs
+
+returns-3 : tie.Need-returns-3 Inv-loop μ-loop
+returns-3 c = λ h. let here = c .before .before .before .before .before .before .before .loop .inv .1 h in let t = c .before .before .before .before .pass-act .ensures (here .1) in let says = sym (c .before .enum-told3 .given .1) ∙ t .is in record { is = rw (c .moved2 .ensures) (sym (no-more _ _ _ _ _ (omega arith) (here .0 ∙ c .before .before .before .before .before .before .skip .ensures .over _ ∙ scan-stop _ _ _ (omega arith) (step-is _ _ _ _ _ _ says)) says)); holds = t .holds }
+
 pub pass-spec : {M : Type 1} → statement M
 pass-spec =
     tie.close
@@ -83,4 +92,7 @@ pass-spec =
     loop-less-2
     loop-again-2
     enum-known-act
-    returns-2)
+    returns-2
+    enum-told-3
+    moved-requires-2
+    returns-3)
