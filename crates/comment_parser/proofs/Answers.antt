@@ -1,0 +1,56 @@
+-- Each answer of `next` is told by its number and values: two outcomes that its contract permits coincide. And what the parser's own unescape calls
+-- refuse beyond what the plain ones do.
+-- Assumes nothing.
+use Prim.Native.Nat.{ℕ, _≤_}
+use mathlib.Core.Path.{_≡_, refl, ap, sym, _∙_}
+use mathlib.Core.Bool.{Bool, true, false, cond, _||_}
+use mathlib.Core.Option.{Option, none, some}
+use native.Mathlib.Omega.{arith}
+use lib.Dec.{ltb, eqb}
+use borrow.Author.Tests.{ltb-false}
+use Rattle.records.specs.Answer.{Answer, refusalAnswer, longest, tooLong, badSpan, badState, spanRefusal}
+use Rattle.records.specs.declared.Refusal.{Refusal}
+use Rattle.records.specs.declared.Refusal.the-variants.{TooLong, BadSpan, BadState, BadTable, NoDate, BadMonth}
+use Rattle.records.proofs.Answers.{coincide, refusalBack, refusal-back, span-good}
+use Rattle.comment_parser.specs.Next.{Step, stepAnswer}
+use Rattle.comment_parser.specs.Own.{ownRefusal}
+use Rattle.comment_parser.specs.declared.ParserState.{ParserState}
+use Rattle.comment_parser.specs.declared.CommentItem.{CommentItem}
+use Rattle.comment_parser.specs.declared.Next.{Next}
+use Rattle.comment_parser.specs.declared.Next.the-variants.{Event, End, Refused}
+
+-- an outcome read back from its answer
+given : Option CommentItem → ParserState → Next
+given (some i) t = Event i t
+given none t = End t
+
+stepBack : Step → Next
+stepBack s = cond (eqb (s .answer .number) 0) (given (s .event) (s .state)) (Refused (refusalBack (s .answer)) (s .state))
+
+step-back : (n : Next) → stepBack (stepAnswer n) ≡ n
+unfolding stepBack given
+step-back (Event i t) = refl
+step-back (End t) = refl
+step-back (Refused TooLong t) = ap (λ (r : Refusal). Refused r t) (refusal-back TooLong)
+step-back (Refused BadSpan t) = ap (λ (r : Refusal). Refused r t) (refusal-back BadSpan)
+step-back (Refused BadState t) = ap (λ (r : Refusal). Refused r t) (refusal-back BadState)
+step-back (Refused (BadTable table entry) t) = ap (λ (r : Refusal). Refused r t) (refusal-back (BadTable table entry))
+step-back (Refused NoDate t) = ap (λ (r : Refusal). Refused r t) (refusal-back NoDate)
+step-back (Refused BadMonth t) = ap (λ (r : Refusal). Refused r t) (refusal-back BadMonth)
+
+pub next-one : (s : Step) (x y : Next) → stepAnswer x ≡ s → stepAnswer y ≡ s → x ≡ y
+next-one = coincide stepAnswer stepBack step-back
+
+-- none of the tests held
+none-held : (x y : Answer) (a b c d : Bool) (r : Option Answer) → cond a (some x) (cond (b || c || d) (some y) r) ≡ none → (a ≡ false) × (b ≡ false) × (c ≡ false)
+none-held x y true b c d r h = let e : _≡_ {A = ℕ} 0 1 = cc in absurd (omega arith)
+none-held x y false true c d r h = let e : _≡_ {A = ℕ} 0 1 = cc in absurd (omega arith)
+none-held x y false false true d r h = let e : _≡_ {A = ℕ} 0 1 = cc in absurd (omega arith)
+none-held x y false false false d r h = (refl, refl, refl)
+
+-- a span that the parser's own calls take is one that the plain calls take
+pub own-good : (len : ℕ) (st : ParserState) (start end : ℕ) → ownRefusal len st start end ≡ none → ownRefusal len st start end ≡ spanRefusal len start end
+unfolding ownRefusal
+own-good len st start end h =
+    let n = none-held tooLong badSpan (ltb longest len) (ltb end start) (ltb len end) (ltb (st .end) end) _ h in
+    h ∙ span-good len start end (ltb-false _ _ (n .0)) (ltb-false _ _ (n .1)) (ltb-false _ _ (n .2))
