@@ -4,10 +4,10 @@ use Prim.Native.Nat.{ℕ, zero, suc, _+_, _-_, _≤_, _<_}
 use mathlib.Core.Path.{_≡_, refl, ap, sym, _∙_}
 use mathlib.Core.Bool.{true, false}
 use mathlib.Core.List.{List, [], _∷_}
-use native.Mathlib.Nat.{add-zero, le-refl}
+use native.Mathlib.Nat.{add-zero}
 use native.Mathlib.Omega.{arith}
-use lib.ListN.{length, take, drop, getD, length-drop, List·getD-eq-default}
-use lib.Seq.{take-all, getD-drop}
+use lib.ListN.{length, drop, getD, List·getD-eq-default}
+use lib.Seq.{getD-drop}
 use borrow.Author.Tests.{lt-leb}
 use Rattle.byte_rules.specs.Utf8.{byteOr, within, isTail, isOne, isTwo, isThree, isFour, charLen}
 
@@ -19,10 +19,6 @@ byte-in (c ∷ s) zero h = refl
 byte-in (c ∷ s) (suc i) h = byte-in s i (omega arith)
 
 module _ (s : List ℕ) (i : ℕ) where
-  -- the part of the text from i on, as the code makes it
-  pub rest-is : take (length s - i) (drop i s) ≡ drop i s
-  rest-is = take-all (length s - i) (drop i s) (rw (length-drop i s) (le-refl (length s - i)))
-
   pub char-from : charLen (drop i s) 0 ≡ charLen s i
   unfolding charLen byteOr
   char-from = rw (getD-drop i s 0 256, getD-drop i s 1 256, getD-drop i s 2 256, getD-drop i s 3 256, add-zero)

@@ -1,15 +1,21 @@
 -- What the crates above use of the byte rules.
 -- Assumes nothing.
-use Prim.Native.Nat.{ℕ, _+_, _≤_, _<_}
+use Prim.Native.Nat.{ℕ, _-_, _≤_, _<_}
 use mathlib.Core.Path.{_≡_, refl}
 use mathlib.Core.Bool.{Bool, true, false, _&&_, cond}
 use mathlib.Core.List.{List}
 use native.Mathlib.Omega.{arith}
 use lib.Dec.{leb, eqb}
-use lib.ListN.{length}
+use lib.ListN.{length, take, drop, length-drop}
+use lib.Seq.{take-all}
+use native.Mathlib.Nat.{le-refl}
 use borrow.Author.Tests.{le-leb, leb-true, ne-eqb}
 use Rattle.byte_rules.specs.Classes.{isBlank, isDigit, isCapital, isSmall}
 use Rattle.byte_rules.specs.Reading.{barsNothing}
+
+-- the part of a text from i on, as the code makes it
+pub rest-is : (s : List ℕ) (i : ℕ) → take (length s - i) (drop i s) ≡ drop i s
+rest-is s i = take-all (length s - i) (drop i s) (rw (length-drop i s) (le-refl (length s - i)))
 
 pub both : (a b : Bool) → (a && b) ≡ true → (a ≡ true) × (b ≡ true)
 both true true h = (refl, refl)

@@ -2,7 +2,6 @@
 use crate::is_alphanumeric;
 use crate::is_small;
 ghost use mathlib.Core.Path.{_≡_};
-ghost use lib.ListN.{length, drop};
 ghost use Rattle.byte_rules.specs.Names.{isLabelByte, isValidLabel, upper, fitsSign, isName, isReservedName};
 
 fn is_label_byte(c: u8) -> bool

@@ -1,7 +1,6 @@
 // Characters of UTF-8, by the syntax of RFC 3629, section 4.
 ghost use mathlib.Core.Path.{_≡_};
-ghost use lib.ListN.{length, drop};
-ghost use Rattle.byte_rules.specs.Utf8.{byteOr, within, isTail, isOne, isTwo, isThree, isFour, charLen};
+ghost use Rattle.byte_rules.specs.Utf8.{byteOr, within, isTail, isTwo, isThree, isFour, charLen};
 
 // The byte at i, or 256 past the end, which no rule below takes.
 fn byte_or(text: &[u8], i: usize) -> u16

@@ -16,6 +16,7 @@ use borrow.Rule.Slice.PartMut.{midOf, putMid}
 use Rattle.records.specs.Answer.{Answer, done}
 use Rattle.records.specs.Records.{textLeft}
 use Rattle.records.proofs.Texts.{Told, told-done}
+use Rattle.records.proofs.Laying.{tail-is, back-is}
 use Rattle.decimal.specs.Over.{over}
 
 pub over-done : (n : ℕ) (refusal : Option Answer) (text room last : List ℕ) → none ≡ refusal → n ≡ length text → n ≤ length room → last ≡ over text room
@@ -30,13 +31,6 @@ pub over-more : (text room : List ℕ) (b at : ℕ) → at ≡ length text → a
 unfolding over
 over-more text room b at end h =
     rw (← end, length-append, ← end, drop-cons room at 0 h, append-assoc, add-one) (set-at text _ _ b at (sym end))
-
--- the tail `&mut out[at..]`, as the borrow checker states it: what is lent, and what the whole is when it has come back
-pub tail-is : (at : ℕ) (out : List ℕ) → midOf at (length out - at) out ≡ drop at out
-tail-is at out = take-all (length out - at) (drop at out) (omega (arith, length-drop at out))
-
-back-is : (at : ℕ) (out last : List ℕ) → putMid at (length out - at) out last ≡ take at out ++ last
-back-is at out last = rw (drop-of-length-le (drop at out) {i = length out - at} (omega (arith, length-drop at out)), append-nil)
 
 pub over-then : (a b room out last : List ℕ) (at : ℕ) → at ≡ length a → out ≡ over a room → last ≡ over b (midOf at (length out - at) out)
     → putMid at (length out - at) out last ≡ over (a ++ b) room

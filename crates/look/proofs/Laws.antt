@@ -16,10 +16,6 @@ use Rattle.byte_rules.specs.Reading.{barsNothing}
 use Rattle.byte_rules.proofs.Laws.{both, nothing-barred}
 use Rattle.look.specs.Look.{holdsAt, isByte, byteAt, blankAt, alphanumericAt, closerAt, doubledAt, wordAt}
 
--- the part of a text from i on, as the code makes it
-pub rest-is : (s : List ℕ) (i : ℕ) → take (length s - i) (drop i s) ≡ drop i s
-rest-is s i = take-all (length s - i) (drop i s) (rw (length-drop i s) (le-refl (length s - i)))
-
 -- any test, of which the tests by place are instances
 module _ (test : ℕ → Bool) (s : List ℕ) (i : ℕ) where
   pub holds-in : i < length s → holdsAt test s i ≡ test (getD s i 0)

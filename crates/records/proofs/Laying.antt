@@ -24,10 +24,10 @@ tail at out = midOf at (length out - at) out
 abbrev pub back : ℕ → List ℕ → List ℕ → List ℕ
 back at out last = putMid at (length out - at) out last
 
-tail-is : (at : ℕ) (out : List ℕ) → tail at out ≡ drop at out
+pub tail-is : (at : ℕ) (out : List ℕ) → tail at out ≡ drop at out
 tail-is at out = take-all (length out - at) (drop at out) (omega (arith, length-drop at out))
 
-back-is : (at : ℕ) (out last : List ℕ) → back at out last ≡ take at out ++ last
+pub back-is : (at : ℕ) (out last : List ℕ) → back at out last ≡ take at out ++ last
 back-is at out last = rw (drop-of-length-le (drop at out) {i = length out - at} (omega (arith, length-drop at out)), append-nil)
 
 -- of the records `all`, to be laid in `out₀`, n are done and `rest` are to come; `out` is the room now, written up to `at`

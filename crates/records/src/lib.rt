@@ -1,7 +1,6 @@
 // Document 01's answers, and records written into an area that the caller lends.
 ghost use mathlib.Core.Path.{_≡_};
 ghost use mathlib.Core.List.{[], _∷_};
-ghost use mathlib.Core.Option.{none};
 ghost use lib.ListN.{length};
 ghost use lib.Dec.{leb};
 ghost use Rattle.records.specs.Answer.{checkedAnswer, spanRefusal, stateRefusal};

@@ -3,15 +3,23 @@ use Prim.Native.Nat.{ℕ}
 use mathlib.Core.List.{List, [], _∷_}
 use Rattle.byte_rules.specs.Text.{bytes}
 use Rattle.records.specs.Answer.{Answer}
+use Rattle.byte_rules.specs.Reading.{rust}
 use Rattle.date.specs.Reading.{readAnswer}
+use Rattle.comment_parser.specs.Item.{span}
+use Rattle.comment_parser.specs.Events.{eventsOf}
+use Rattle.comment_parser.specs.declared.CommentItem.{CommentItem}
+use Rattle.comment_parser.specs.declared.CommentItem.the-variants.{Text, LineBreak, StartMathMode, EndMathMode, MathToken, Label, Url, StartSubscript, EndSubscript, StartItalic, EndItalic, BibTag}
 
 -- a row: what is read, and what document 01 says that it gives
 pub data Row : Type 0 where
   date : List ℕ → Answer → Row
+  -- the events of the span from a to b of a buffer
+  events : List ℕ → ℕ → ℕ → List CommentItem → Row
 
 -- the row with what the definitions give
 abbrev pub computed : Row → Row
 computed (date text answer) = date text (readAnswer text)
+computed (events buf a b items) = events buf a b (eventsOf rust buf a b)
 
 -- an answer by its number and values
 abbrev pub gives : ℕ → List ℕ → Answer
@@ -26,4 +34,17 @@ table a b c d e f g h i j k l =
     -- 9 bytes, 12 bytes
     ∷ date (a ∷ b ∷ c ∷ d ∷ e ∷ f ∷ g ∷ h ∷ i ∷ []) (gives 5 [])
     ∷ date (a ∷ b ∷ c ∷ d ∷ e ∷ f ∷ g ∷ h ∷ i ∷ j ∷ k ∷ l ∷ []) (gives 5 [])
+    -- comments, whole
+    ∷ events [] 0 0 []
+    ∷ events (bytes "[]") 0 2 (BibTag (span 1 1) ∷ [])
+    ∷ events (bytes "[a ]") 0 4 (Text (span 0 4) ∷ [])
+    ∷ events (bytes "~") 0 1 (Label 0 (span 1 1) ∷ [])
+    ∷ events (bytes "~ mmx") 0 5 (Url 0 (span 2 5) ∷ [])
+    ∷ events (10 ∷ 10 ∷ 10 ∷ []) 0 3 (Text (span 0 1) ∷ LineBreak 1 ∷ Text (span 1 2) ∷ LineBreak 2 ∷ Text (span 2 3) ∷ [])
+    ∷ events (bytes "( `a` )") 0 7 (Text (span 0 1) ∷ StartMathMode 2 ∷ MathToken (span 3 4) ∷ EndMathMode 4 ∷ Text (span 6 7) ∷ [])
+    ∷ events (bytes "x_0`b.c`") 0 8
+    (Text (span 0 1) ∷ StartSubscript 1 ∷ Text (span 2 3) ∷ StartMathMode 3 ∷ MathToken (span 4 5) ∷ EndSubscript 5 ∷ MathToken (span 5 7) ∷ EndMathMode 7 ∷ [])
+    -- a span that begins inside the buffer: the byte before it counts
+    ∷ events (bytes "a_b_") 1 4 (StartSubscript 1 ∷ Text (span 2 3) ∷ EndSubscript 3 ∷ Text (span 3 4) ∷ [])
+    ∷ events (bytes " _b_") 1 4 (StartItalic 1 ∷ Text (span 2 3) ∷ EndItalic 3 ∷ [])
     ∷ []

@@ -1,4 +1,3 @@
 -- Laws: what the crates above use of unescaping.
 pub mod Laws
 mod Writing
-mod Spans

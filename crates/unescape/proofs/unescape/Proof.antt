@@ -3,7 +3,8 @@
 use native.Mathlib.Omega.{arith}
 use borrow.Author.Needs.{needs}
 use Rattle.records.proofs.Texts.{told-refused, told-short, told-done}
-use Rattle.unescape.proofs.Spans.{span-inside}
+use mathlib.Core.Path.{sym}
+use Rattle.records.proofs.Answers.{span-accepted}
 use Rattle.unescape.proofs.unescape.Statement.{statement}
 use Rattle.unescape.proofs.unescape.Tie as tie
 
@@ -20,13 +21,13 @@ enum-told : tie.Need-enum-told
 enum-told c = search needs
 
 sub-text : tie.Need-sub-text
-sub-text c = span-inside _ _ _ (rw (c .enum-told .given .1) at (c .before .before .check-span .ensures)) .0
+sub-text c = span-accepted _ _ _ (sym (rw (c .enum-told .given .1) at (c .before .before .check-span .ensures))) .1
 
 part-text-start : tie.Need-part-text-start
-part-text-start c = span-inside _ _ _ (rw (c .enum-told .given .1) at (c .before .before .check-span .ensures)) .0
+part-text-start c = span-accepted _ _ _ (sym (rw (c .enum-told .given .1) at (c .before .before .check-span .ensures))) .1
 
 part-text-end : tie.Need-part-text-end
-part-text-end c = span-inside _ _ _ (rw (c .enum-told .given .1) at (c .before .before .check-span .ensures)) .1
+part-text-end c = span-accepted _ _ _ (sym (rw (c .enum-told .given .1) at (c .before .before .check-span .ensures))) .2
 
 unescaped-len-requires : tie.Need-unescaped-len-requires
 unescaped-len-requires c κs = search needs

@@ -1,5 +1,6 @@
 use mathlib.Core.Path.{sym, _∙_}
-use Rattle.byte_rules.proofs.CharLaws.{rest-is, char-from, char-past}
+use Rattle.byte_rules.proofs.CharLaws.{char-from, char-past}
+use Rattle.byte_rules.proofs.Laws.{rest-is}
 use borrow.Author.Needs.{needs}
 use Rattle.byte_rules.proofs.utf8.char_len.Statement.{statement}
 use Rattle.byte_rules.proofs.utf8.char_len.Tie as tie

@@ -5,7 +5,7 @@ use mathlib.Core.Path.{sym, ap, _∙_}
 use native.Mathlib.Omega.{arith}
 use lib.ListN.{take}
 use lib.Seq.{length-take-le}
-use Rattle.decimal.proofs.Over.{tail-is}
+use Rattle.records.proofs.Laying.{tail-is}
 use Rattle.date.specs.Numbers.{number}
 use Rattle.date.specs.Reading.{fields}
 use Rattle.date.proofs.NumberLaws.{number-below, ten-below}

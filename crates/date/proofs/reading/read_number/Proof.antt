@@ -1,7 +1,7 @@
 -- `read_number` meets its contract: a case of the definition for each answer.
 -- Assumes nothing.
 use mathlib.Core.Path.{ap, _∙_}
-use Rattle.decimal.proofs.Over.{tail-is}
+use Rattle.records.proofs.Laying.{tail-is}
 use Rattle.date.specs.Numbers.{digits}
 use Rattle.date.proofs.NumberLaws.{number-none, number-plus, number-plain}
 use borrow.Author.Needs.{needs}

@@ -8,7 +8,8 @@ use lib.ListN.{length, replicate, length-set, length-replicate, length-drop}
 use borrow.Rule.Slice.PartMut.{midOf}
 use Rattle.decimal.specs.Decimal.{decimal}
 use Rattle.decimal.specs.Over.{over}
-use Rattle.decimal.proofs.Over.{over-left, over-then, tail-is}
+use Rattle.decimal.proofs.Over.{over-left, over-then}
+use Rattle.records.proofs.Laying.{tail-is}
 use Rattle.date.proofs.WritingLaws.{year-is, length-year, zeros-more}
 use borrow.Author.Needs.{needs}
 use Rattle.date.proofs.writing.put_year.Statement.{statement}
