@@ -2,15 +2,15 @@
 -- Assumes nothing.
 use Prim.Native.Nat.{ℕ, _-_, _≤_, _<_}
 use mathlib.Core.Path.{_≡_, refl}
-use mathlib.Core.Bool.{Bool, true, false, _&&_, cond}
+use mathlib.Core.Bool.{Bool, true, false, _&&_, _||_, false≢true}
 use mathlib.Core.List.{List}
 use native.Mathlib.Omega.{arith}
 use lib.Dec.{leb, eqb}
 use lib.ListN.{length, take, drop, length-drop}
 use lib.Seq.{take-all}
 use native.Mathlib.Nat.{le-refl}
-use borrow.Author.Tests.{le-leb, leb-true, ne-eqb}
-use Rattle.byte_rules.specs.Classes.{isBlank, isDigit, isCapital, isSmall}
+use borrow.Author.Tests.{le-leb, leb-true, eqb-true, ne-eqb}
+use Rattle.byte_rules.specs.Classes.{isBlank, isDigit, isCapital, isSmall, isCreditSpace}
 use Rattle.byte_rules.specs.Reading.{barsNothing}
 
 -- the part of a text from i on, as the code makes it
@@ -57,3 +57,18 @@ small-is c h = (leb-true 97 c (both _ _ h .0), leb-true c 122 (both (leb 97 c) _
 pub nothing-barred : (c : ℕ) → barsNothing c ≡ false
 unfolding barsNothing
 nothing-barred c = refl
+
+-- the spaces of a credit are ASCII, and `,` is none
+pub credit-space-low : (c : ℕ) → isCreditSpace c ≡ true → c < 128
+unfolding isCreditSpace
+credit-space-low c h = go (eqb c 32) (eqb c 13) (eqb c 10) refl refl refl h
+  where
+    go : (p q r : Bool) → eqb c 32 ≡ p → eqb c 13 ≡ q → eqb c 10 ≡ r → (p || q || r) ≡ true → c < 128
+    go true q r e f g h = omega (arith, eqb-true c 32 e)
+    go false true r e f g h = omega (arith, eqb-true c 13 f)
+    go false false true e f g h = omega (arith, eqb-true c 10 g)
+    go false false false e f g h = absurd (false≢true h)
+
+pub comma-no-space : isCreditSpace 44 ≡ false
+unfolding isCreditSpace
+comma-no-space = refl

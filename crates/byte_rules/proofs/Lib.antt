@@ -1,3 +1,4 @@
 pub mod Laws
 mod NameLaws
 mod CharLaws
+pub mod Characters

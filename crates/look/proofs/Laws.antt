@@ -11,7 +11,7 @@ use borrow.Author.Tests.{le-ltb, lt-ltb, ltb-true, ltb-false, eqb-true, ne-eqb, 
 use lib.Dec.{ltb, eqb}
 use lib.ListN.{length, take, drop, getD, length-drop, drop-of-length-le}
 use lib.Seq.{drop-cons, take-all, getD-drop}
-use Rattle.byte_rules.specs.Classes.{isBlank}
+use Rattle.byte_rules.specs.Classes.{isBlank, isCloser}
 use Rattle.byte_rules.specs.Reading.{barsNothing}
 use Rattle.byte_rules.proofs.Laws.{both, nothing-barred}
 use Rattle.look.specs.Look.{holdsAt, isByte, byteAt, blankAt, alphanumericAt, closerAt, doubledAt, wordAt}
@@ -94,6 +94,10 @@ module _ (s : List ℕ) (i : ℕ) where
   pub closer-within : closerAt s i ≡ true → i < length s
   unfolding closerAt
   closer-within = holds-within _ s i
+
+  pub closer-is : closerAt s i ≡ true → isCloser (getD s i 0) ≡ true
+  unfolding closerAt
+  closer-is = holds-is isCloser s i
 
   pub doubled-first : (b : ℕ) → doubledAt s i b ≡ true → byteAt s i b ≡ true
   unfolding doubledAt

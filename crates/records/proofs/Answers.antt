@@ -9,7 +9,7 @@ use mathlib.Core.Option.{Option, none, some}
 use lib.Dec.{ltb, eqb}
 use lib.ListN.{getD}
 use borrow.Author.Tests.{le-ltb, lt-ltb, ltb-false}
-use Rattle.records.specs.Answer.{Answer, refusalAnswer, filledAnswer, checkedAnswer, tooLong, badSpan, longest, badState, spanRefusal, stateRefusal}
+use Rattle.records.specs.Answer.{Answer, refusalAnswer, filledAnswer, checkedAnswer, tooLong, badSpan, longest, badState, lengthRefusal, spanRefusal, stateRefusal}
 use Rattle.records.specs.declared.Refusal.{Refusal}
 use Rattle.records.specs.declared.Refusal.the-variants.{TooLong, BadSpan, BadState, BadTable, NoDate, BadMonth}
 use Rattle.records.specs.declared.Filled.{Filled}
@@ -96,6 +96,16 @@ module _ (len start end : ℕ) where
       pub span-good : end ≤ len → none ≡ spanRefusal len start end
       unfolding spanRefusal
       span-good h = simp (le-ltb _ _ fits, le-ltb _ _ order, le-ltb _ _ h)
+
+-- the same for a buffer by its length alone
+module _ (len : ℕ) where
+  pub length-long : longest < len → lengthRefusal len ≡ some tooLong
+  unfolding lengthRefusal
+  length-long h = simp (lt-ltb _ _ h)
+
+  pub length-fits : len ≤ longest → lengthRefusal len ≡ none
+  unfolding lengthRefusal
+  length-fits h = simp (le-ltb _ _ h)
 
 -- the same for a state
 module _ (len pos end : ℕ) where

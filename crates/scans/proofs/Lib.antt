@@ -1,4 +1,5 @@
 pub mod Laws
 pub mod TagLaws
 pub mod PlainLaws
+pub mod EndLaws
 mod RustLaws

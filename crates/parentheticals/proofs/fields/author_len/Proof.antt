@@ -1,0 +1,36 @@
+-- `fields::author_len` meets its contract.
+-- Assumes nothing.
+use mathlib.Core.Path.{sym, _∙_}
+use Rattle.parentheticals.proofs.FieldLaws.{len-past, len-char, len-other}
+use borrow.Author.Needs.{needs}
+use Rattle.parentheticals.proofs.fields.author_len.Statement.{statement}
+use Rattle.parentheticals.proofs.fields.author_len.Tie as tie
+
+returns : tie.Need-returns
+returns c = len-past _ _ _ (c .if1 .taken)
+
+shared-slice-read-is-author-byte : tie.Need-shared-slice-read-is-author-byte
+shared-slice-read-is-author-byte c = search needs
+
+is-author-byte-requires : tie.Need-is-author-byte-requires
+is-author-byte-requires c κs = search needs
+
+char-len-requires : tie.Need-char-len-requires
+char-len-requires c κs = search needs
+
+returns-2 : tie.Need-returns-2
+returns-2 c = c .char-len .ensures ∙ len-char _ _ (c .before .before .before .before .if1 .left) (sym (c .before .before .is-author-byte .ensures) ∙ c .before .if2 .taken)
+
+returns-3 : tie.Need-returns-3
+returns-3 c = len-other _ _ (c .before .before .before .if1 .left) (sym (c .before .is-author-byte .ensures) ∙ c .if2 .left)
+
+pub author-len-spec : {M : Type 1} → statement M
+author-len-spec =
+    tie.close
+    (tie.spec
+    returns
+    shared-slice-read-is-author-byte
+    is-author-byte-requires
+    char-len-requires
+    returns-2
+    returns-3)

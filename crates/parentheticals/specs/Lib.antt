@@ -1,0 +1,4 @@
+pub mod Fields
+pub mod Matching
+pub mod Records
+pub mod Answers

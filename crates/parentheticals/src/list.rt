@@ -1,0 +1,106 @@
+// The records of a span's parentheticals, in an area that the caller lends.
+ghost use mathlib.Core.Path.{_≡_};
+ghost use lib.ListN.{length};
+ghost use lib.Dec.{leb};
+ghost use Rattle.byte_rules.specs.Reading.{rust};
+ghost use Rattle.records.specs.Answer.{filledAnswer};
+ghost use Rattle.records.specs.Records.{put};
+ghost use Rattle.parentheticals.specs.Records.{kindOf, authorOf, dateOf, recordOf, recordWidth, InWords, parentheticalsAnswer, parentheticalsLeft};
+use crate::Found;
+use crate::Parenthetical;
+use crate::Span;
+use crate::matching::Search;
+use crate::matching::next_match;
+use records::Checked;
+use records::Filled;
+use records::check_span;
+use records::put7;
+
+// Kinds 1 to 5 in the enum's order.
+fn kind_of(item: Parenthetical) -> u32
+    ensures { λ r. ⌜ r ≡ kindOf item ⌝ }
+{
+    match item {
+        Parenthetical::ContributedBy { author: _, date: _ } => 1,
+        Parenthetical::RevisedBy { author: _, date: _ } => 2,
+        Parenthetical::ProofShortenedBy { author: _, date: _ } => 3,
+        Parenthetical::ProofModificationDiscouraged => 4,
+        Parenthetical::NewUsageDiscouraged => 5,
+    }
+}
+
+// The author; zeros for a notice.
+fn author_of(item: Parenthetical) -> Span
+    ensures { λ r. ⌜ r ≡ authorOf item ⌝ }
+{
+    match item {
+        Parenthetical::ContributedBy { author, date: _ } => author,
+        Parenthetical::RevisedBy { author, date: _ } => author,
+        Parenthetical::ProofShortenedBy { author, date: _ } => author,
+        Parenthetical::ProofModificationDiscouraged => Span { start: 0, end: 0 },
+        Parenthetical::NewUsageDiscouraged => Span { start: 0, end: 0 },
+    }
+}
+
+// The date; zeros for a notice.
+fn date_of(item: Parenthetical) -> Span
+    ensures { λ r. ⌜ r ≡ dateOf item ⌝ }
+{
+    match item {
+        Parenthetical::ContributedBy { author: _, date } => date,
+        Parenthetical::RevisedBy { author: _, date } => date,
+        Parenthetical::ProofShortenedBy { author: _, date } => date,
+        Parenthetical::ProofModificationDiscouraged => Span { start: 0, end: 0 },
+        Parenthetical::NewUsageDiscouraged => Span { start: 0, end: 0 },
+    }
+}
+
+// Writes a parenthetical's record at the front of `room`, if it fits.
+fn put_found(room: &mut [u32], found: Found) -> bool
+    requires { ⌜ InWords found ⌝ }
+    ensures fits { λ r. ⌜ r ≡ leb recordWidth (length (now (room .entry))) ⌝ }
+    ensures left { λ r. ⌜ now (room .exit) ≡ put recordWidth (recordOf found) (now (room .entry)) ⌝ }
+{
+    let whole = found.whole;
+    let item = found.item;
+    let author = author_of(item);
+    let date = date_of(item);
+    put7(
+        room,
+        kind_of(item),
+        whole.start as u32,
+        whole.end as u32,
+        author.start as u32,
+        author.end as u32,
+        date.start as u32,
+        date.end as u32,
+    )
+}
+
+// The parentheticals of the span from `start` to `end`, as records in `out`.
+pub fn parentheticals(buf: &[u8], start: usize, end: usize, out: &mut [u32]) -> Filled
+    ensures answer { λ r. ⌜ filledAnswer r ≡ parentheticalsAnswer rust (now (buf .entry)) start end (length (now (out .entry))) ⌝ }
+    ensures left { λ r. ⌜ now (out .exit) ≡ parentheticalsLeft rust (now (buf .entry)) start end (now (out .entry)) ⌝ }
+{
+    if let Checked::Refused(r) = check_span(buf.len(), start, end) {
+        return Filled::Refused(r);
+    }
+    let mut from = start;
+    let mut at: usize = 0;
+    let mut n: usize = 0;
+    loop {
+        let Search::Hit(found) = next_match(&buf[..end], from) else {
+            break;
+        };
+        if put_found(&mut out[at..], found) {
+            at += 7;
+        }
+        n += 1;
+        from = found.whole.end;
+    }
+    if n <= out.len() / 7 {
+        Filled::Done(n)
+    } else {
+        Filled::Short(n)
+    }
+}
