@@ -3,13 +3,16 @@
 use Prim.Native.Nat.{ℕ}
 use mathlib.Core.Path.{_≡_, refl}
 use mathlib.Core.List.{map}
-use Rattle.byte_rules.specs.Classes.{isBlank, isCloser, isItalicOpener, isDigit, isCapital, isSmall, isAlphanumeric}
+use Rattle.byte_rules.specs.Classes.{isBlank, isCloser, isItalicOpener, isDigit, isCapital, isSmall, isAlphanumeric, isCreditSpace, isAuthorByte}
+use Rattle.byte_rules.specs.Utf8.{byteOr, within, isTail, isOne, isTwo, isThree, isFour, charLen}
 use Rattle.byte_rules.specs.Reading.{barsNothing}
 use Rattle.look.specs.Look.{holdsAt, isByte, byteAt, blankAt, alphanumericAt, closerAt, italicOpenerAt, doubledAt, wordAt}
 use Rattle.scans.specs.Scan.{walk, scan}
 use Rattle.scans.specs.Ends.{blanksStep, tagStep, subscriptStep, italicStep, tagEnd, opensTag, labelStopper, htmlMark, labelStep, closesItalic, subscriptEnd, italicEnd, isUrl}
 use Rattle.records.specs.Answer.{stateRefusal}
 use Rattle.records.specs.Produced.{turns, produced}
+use Rattle.parentheticals.specs.Fields.{spaceRun, spacesAt, signAt, phraseAt, fits, pictureAt, dateAt, authorStart, authorByte, authorLen, authorWithin, authorEnd}
+use Rattle.parentheticals.specs.Matching.{authorAfter, headAt, noticeAt, tailAt, restAt, creditAt, matchAt, firstOf, nextFrom, bytesLeft, stepFrom, matchesFrom}
 use Rattle.comment_parser.specs.Rules.{blankBefore, opensAhead, beforeOpen, afterClose, afterLf, labelItem, tickRule, mathRule, tildeRule, newlineRule, htmlRule, bracketRule, opensItalic, stepTo, openUnder, underRule, plainRule, textRule, firstRule, passAct}
 use Rattle.comment_parser.specs.Pass.{runStart, passStep, endedAt, pass, runItem}
 use Rattle.comment_parser.specs.Next.{give, readOn, answered, nextOf}
@@ -20,5 +23,5 @@ use Rattle.date.specs.Reading.{fields, readDate}
 use Rattle.samples.specs.Samples.{computed, table}
 
 pub samples : (a b c d e f g h i j k l : ℕ) → map computed (table a b c d e f g h i j k l) ≡ table a b c d e f g h i j k l
-unfolding isBlank isCloser isItalicOpener isDigit isCapital isSmall isAlphanumeric barsNothing holdsAt isByte byteAt blankAt alphanumericAt closerAt italicOpenerAt doubledAt wordAt walk scan blanksStep tagStep subscriptStep italicStep tagEnd opensTag labelStopper htmlMark labelStep closesItalic subscriptEnd italicEnd isUrl stateRefusal turns produced blankBefore opensAhead beforeOpen afterClose afterLf labelItem tickRule mathRule tildeRule newlineRule htmlRule bracketRule opensItalic stepTo openUnder underRule plainRule textRule firstRule passAct runStart passStep endedAt pass runItem give readOn answered nextOf seen eventsFrom eventsOf digitsOn digits number names letterOf isName monthIn monthOf fields readDate
+unfolding isCreditSpace isAuthorByte byteOr within isTail isOne isTwo isThree isFour charLen spaceRun spacesAt signAt phraseAt fits pictureAt dateAt authorStart authorByte authorLen authorWithin authorEnd authorAfter headAt noticeAt tailAt restAt creditAt matchAt firstOf nextFrom bytesLeft stepFrom matchesFrom isBlank isCloser isItalicOpener isDigit isCapital isSmall isAlphanumeric barsNothing holdsAt isByte byteAt blankAt alphanumericAt closerAt italicOpenerAt doubledAt wordAt walk scan blanksStep tagStep subscriptStep italicStep tagEnd opensTag labelStopper htmlMark labelStep closesItalic subscriptEnd italicEnd isUrl stateRefusal turns produced blankBefore opensAhead beforeOpen afterClose afterLf labelItem tickRule mathRule tildeRule newlineRule htmlRule bracketRule opensItalic stepTo openUnder underRule plainRule textRule firstRule passAct runStart passStep endedAt pass runItem give readOn answered nextOf seen eventsFrom eventsOf digitsOn digits number names letterOf isName monthIn monthOf fields readDate
 samples a b c d e f g h i j k l = refl

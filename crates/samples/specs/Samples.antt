@@ -5,6 +5,7 @@ use Rattle.byte_rules.specs.Text.{bytes}
 use Rattle.records.specs.Answer.{Answer}
 use Rattle.byte_rules.specs.Reading.{rust}
 use Rattle.date.specs.Reading.{readAnswer}
+use Rattle.parentheticals.specs.Records.{recordsOf}
 use Rattle.comment_parser.specs.Item.{span}
 use Rattle.comment_parser.specs.Events.{eventsOf}
 use Rattle.comment_parser.specs.declared.CommentItem.{CommentItem}
@@ -15,11 +16,14 @@ pub data Row : Type 0 where
   date : List ℕ → Answer → Row
   -- the events of the span from a to b of a buffer
   events : List ℕ → ℕ → ℕ → List CommentItem → Row
+  -- the records of the parentheticals of the span from a to b of a buffer
+  credits : List ℕ → ℕ → ℕ → List (List ℕ) → Row
 
 -- the row with what the definitions give
 abbrev pub computed : Row → Row
 computed (date text answer) = date text (readAnswer text)
 computed (events buf a b items) = events buf a b (eventsOf rust buf a b)
+computed (credits buf a b records) = credits buf a b (recordsOf rust buf a b)
 
 -- an answer by its number and values
 abbrev pub gives : ℕ → List ℕ → Answer
@@ -47,4 +51,6 @@ table a b c d e f g h i j k l =
     -- a span that begins inside the buffer: the byte before it counts
     ∷ events (bytes "a_b_") 1 4 (StartSubscript 1 ∷ Text (span 2 3) ∷ EndSubscript 3 ∷ Text (span 3 4) ∷ [])
     ∷ events (bytes " _b_") 1 4 (StartItalic 1 ∷ Text (span 2 3) ∷ EndItalic 3 ∷ [])
+    -- one credit (0,49), author (16,35), date (37,47)
+    ∷ credits (bytes "(Contributed by Ann (Revised by Bob, 2-Feb-2020.)") 0 49 ((1 ∷ 0 ∷ 49 ∷ 16 ∷ 35 ∷ 37 ∷ 47 ∷ []) ∷ [])
     ∷ []

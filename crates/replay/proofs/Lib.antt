@@ -1,0 +1,4 @@
+pub mod Over
+pub mod Hex
+pub mod Fields
+pub mod Rooms

@@ -1,0 +1,24 @@
+-- The fields of an answer's line, and bytes in hex.
+use Prim.Native.Nat.{ℕ, _+_, _-_, _/_, _%_}
+use mathlib.Core.Bool.{cond}
+use mathlib.Core.List.{List, [], _∷_, _++_}
+use lib.Dec.{ltb}
+use Rattle.decimal.specs.Decimal.{decimal}
+
+-- a number behind a tab
+unfoldable pub fieldOf : ℕ → List ℕ
+fieldOf n = 9 ∷ decimal n
+
+-- a word, then numbers
+unfoldable pub fieldsOf : List ℕ → List ℕ → List ℕ
+fieldsOf word [] = word
+fieldsOf word (n ∷ ns) = fieldsOf (word ++ fieldOf n) ns
+
+-- 0 to 9, then a to f
+unfoldable pub digitOf : ℕ → ℕ
+digitOf n = cond (ltb n 10) (48 + n) (97 + (n - 10))
+
+-- two digits for each byte
+unfoldable pub hexOf : List ℕ → List ℕ
+hexOf [] = []
+hexOf (b ∷ bs) = digitOf (b / 16) ∷ digitOf (b % 16) ∷ hexOf bs
