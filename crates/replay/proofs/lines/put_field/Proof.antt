@@ -7,7 +7,8 @@ use lib.ListN.{length, set, length-set, length-drop}
 use Rattle.decimal.specs.Decimal.{decimal}
 use Rattle.decimal.specs.Over.{over}
 use Rattle.decimal.proofs.Laws.{length-below}
-use Rattle.decimal.proofs.Over.{over-left, over-more, over-then, tail-is}
+use Rattle.decimal.proofs.Over.{over-left, over-more, over-then}
+use Rattle.records.proofs.Laying.{tail-is}
 use Rattle.replay.specs.Lines.{fieldOf}
 use borrow.Author.Needs.{needs}
 use Rattle.replay.proofs.lines.put_field.Statement.{statement}

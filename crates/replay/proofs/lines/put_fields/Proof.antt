@@ -6,7 +6,7 @@ use native.Mathlib.Omega.{arith}
 use borrow.Author.Needs.{needs}
 use lib.ListN.{length, length-drop}
 use lib.Seq.{length-take-le}
-use Rattle.decimal.proofs.Over.{tail-is}
+use Rattle.records.proofs.Laying.{tail-is}
 use Rattle.replay.proofs.Fields.{Fielding, fielding-starts, fielding-goes, fielding-long, fielding-room, fielding-ends}
 use Rattle.replay.proofs.lines.put_fields.Statement.{statement}
 use Rattle.replay.proofs.lines.put_fields.Tie as tie
