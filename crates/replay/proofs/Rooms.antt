@@ -10,11 +10,13 @@ use native.Mathlib.Numerals.{add-one}
 use lib.Dec.{leb, ltb, eqb}
 use lib.ListN.{length, set, getD, length-append, drop-of-length-le}
 use borrow.Author.Tests.{leb-true}
-use Rattle.records.specs.Answer.{Answer, filledAnswer, done, short, tooLong, badSpan, badMonth, longest, spanRefusal}
+use Rattle.records.specs.Answer.{Answer, filledAnswer, done, short, tooLong, badSpan, badState, badMonth, longest, spanRefusal}
 use Rattle.records.specs.Records.{textAnswer}
 use Rattle.records.specs.declared.Filled.{Filled}
 use Rattle.decimal.specs.Over.{over}
 use Rattle.decimal.proofs.Over.{over-more}
+use Rattle.comment_parser.specs.Own.{ownRefusal}
+use Rattle.comment_parser.specs.declared.ParserState.{ParserState}
 use Rattle.date.specs.declared.Date.{Date}
 use Rattle.date.specs.Writing.{writeRefusal}
 use Rattle.replay.specs.Bounds.{Fits, patternTo}
@@ -53,6 +55,16 @@ span-refusing len start end = refusing-two tooLong badSpan (omega arith) (omega 
 refusing-one : (x : Answer) → 0 < x .number → (p : Bool) → Refusing (cond p (some x) none)
 refusing-one x hx true a e = let z : x ≡ a = cc in omega (arith, ap (λ (t : Answer). t .number) z)
 refusing-one x hx false a e = let z : _≡_ {A = ℕ} 0 1 = cc in absurd (omega arith)
+
+refusing-three : (x y z : Answer) → 0 < x .number → 0 < y .number → 0 < z .number → (p q s : Bool) → Refusing (cond p (some x) (cond q (some y) (cond s (some z) none)))
+refusing-three x y z hx hy hz true q s a e = let w : x ≡ a = cc in omega (arith, ap (λ (t : Answer). t .number) w)
+refusing-three x y z hx hy hz false q s a e = refusing-two y z hy hz q s a e
+
+pub own-refusing : (len : ℕ) (st : ParserState) (start end : ℕ) → Refusing (ownRefusal len st start end)
+unfolding ownRefusal
+own-refusing len st start end =
+    refusing-three tooLong badSpan badState (omega arith) (omega arith) (omega arith)
+    (ltb longest len) (ltb end start || ltb len end || ltb (st .end) end) (ltb (st .end) (st .pos) || ltb len (st .end))
 
 pub write-refusing : (d : Date) → Refusing (writeRefusal d)
 unfolding writeRefusal

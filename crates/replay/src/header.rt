@@ -1,6 +1,7 @@
 // The header of a case.
 ghost use mathlib.Core.Path.{_≡_};
 ghost use Prim.Native.Nat.{_+_, _≤_};
+ghost use lib.ListN.{length};
 ghost use Rattle.replay.specs.Headers.{wordAt, headerOf};
 
 // Op, flag, three numbers, the room lent and the length of the payload.
@@ -21,14 +22,15 @@ fn wide(b: u8) -> u32
 }
 
 // The word of four bytes at i, little endian.
-pub fn word(s: &[u8; 24], i: usize) -> u32
-    requires { ⌜ i + 4 ≤ 24 ⌝ }
+pub fn word(s: &[u8], i: usize) -> u32
+    requires { ⌜ i + 4 ≤ length (now s) ⌝ }
     ensures { λ r. ⌜ r ≡ wordAt (now (s .entry)) i ⌝ }
 {
     wide(s[i]) + 256 * wide(s[i + 1]) + 65536 * wide(s[i + 2]) + 16777216 * wide(s[i + 3])
 }
 
-pub fn read_header(s: &[u8; 24]) -> Header
+pub fn read_header(s: &[u8]) -> Header
+    requires { ⌜ 24 ≤ length (now s) ⌝ }
     ensures { λ r. ⌜ r ≡ headerOf (now (s .entry)) ⌝ }
 {
     Header {

@@ -1,5 +1,5 @@
 // Replays cases through the library. Reads cases (oracle/REPLAY.md) from standard input until it ends, and writes their answers to standard output.
-// It knows the ops L R U D K O W. At what is no case, at any other op and at an input that ends inside a case it writes `bad case` and ends.
+// It knows the ops L R U D K O W S V. At what is no case, at any other op and at an input that ends inside a case it writes `bad case` and ends.
 // A new op is a function in the file of its group, and an arm in `answer`.
 mod bytes;
 mod dates;
@@ -8,6 +8,8 @@ mod input;
 mod lines;
 mod names;
 mod output;
+mod states;
+mod steps;
 mod texts;
 mod unescaping;
 
@@ -52,6 +54,8 @@ fn answer(h: Header, payload: &[u8], room: &mut [u8], out: &mut [u8], at: usize)
         b'K' => dates::calendar(h, out, at),
         b'O' => dates::order(h, out, at),
         b'W' => dates::writing(h, room, out, at),
+        b'S' => steps::stepping(h, payload, out, at),
+        b'V' => steps::own_unescaping(h, payload, room, out, at),
         _ => no_case(at),
     }
 }

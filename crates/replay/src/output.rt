@@ -66,6 +66,20 @@ pub fn emit_line(out: &mut [u8], at: usize, word: &[u8], numbers: &[u64]) -> usi
     emit(out, to, b"\n")
 }
 
+// Writes numbers alone as a line: a line of a byte and the numbers, without that byte and its tab.
+pub fn emit_record(out: &mut [u8], at: usize, numbers: &[u64]) -> usize
+    requires { ⌜ (at ≤ length (now out)) × (length (now numbers) ≤ 10) ⌝ }
+    ensures { λ r. ⌜ r ≤ length (now (out .exit)) ⌝ }
+{
+    let mut line = blank_line();
+    let n = put_fields(&mut line, b"-", numbers);
+    if n < 2 {
+        return at;
+    }
+    let to = emit(out, at, &line[2..n]);
+    emit(out, to, b"\n")
+}
+
 // The answer of a case that is one line.
 pub fn told_line(out: &mut [u8], at: usize, word: &[u8], numbers: &[u64]) -> Told
     requires { ⌜ (at ≤ length (now out)) × ((length (now word) ≤ 16) × (length (now numbers) ≤ 10)) ⌝ }

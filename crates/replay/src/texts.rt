@@ -54,7 +54,7 @@ fn emit_touched(out: &mut [u8], at: usize, room: &[u8], from: usize) -> usize
 }
 
 // The number of a refusal.
-fn number_of(why: Refusal) -> u64
+pub fn number_of(why: Refusal) -> u64
     ensures { λ r. ⌜ r ≡ refusalAnswer why .number ⌝ }
 {
     match why {

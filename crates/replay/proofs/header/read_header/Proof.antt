@@ -4,11 +4,11 @@ use borrow.Author.Needs.{needs}
 use Rattle.replay.proofs.header.read_header.Statement.{statement}
 use Rattle.replay.proofs.header.read_header.Tie as tie
 
-element-copy-out-t4 : tie.Need-element-copy-out-t4
-element-copy-out-t4 c = search needs
+shared-slice-read-t3 : tie.Need-shared-slice-read-t3
+shared-slice-read-t3 c = search needs
 
-element-copy-out-t7 : tie.Need-element-copy-out-t7
-element-copy-out-t7 c = search needs
+shared-slice-read-t5 : tie.Need-shared-slice-read-t5
+shared-slice-read-t5 c = search needs
 
 word-requires : tie.Need-word-requires
 word-requires c κs = search needs
@@ -32,8 +32,8 @@ pub read-header-spec : {M : Type 1} → statement M
 read-header-spec =
     tie.close
     (tie.spec
-    element-copy-out-t4
-    element-copy-out-t7
+    shared-slice-read-t3
+    shared-slice-read-t5
     word-requires
     word-requires-2
     word-requires-3

@@ -1,0 +1,74 @@
+-- A loop over the events that hands the note on from call to call, in the Rust's reading: what holds along the way, and what each answer tells.
+-- Assumes nothing.
+use Prim.Native.Nat.{ℕ}
+use mathlib.Core.Path.{_≡_, refl, _∙_}
+use mathlib.Core.Logic.{inl, inr}
+use mathlib.Core.List.{List, [], _∷_}
+use mathlib.Core.Option.{none, some}
+use native.Mathlib.Omega.{arith}
+use lib.ListN.{take}
+use types.Run.{OneOf}
+use denote.Enum.Declared.{tagOf}
+use Rattle.records.specs.Answer.{longest}
+use Rattle.byte_rules.specs.Reading.{rust}
+use Rattle.scans.specs.Notes.{Holds}
+use Rattle.scans.specs.declared.Note.{Note}
+use Rattle.scans.proofs.TagLaws.{holds-nothing}
+use Rattle.comment_parser.specs.Item.{placedOf, Within}
+use Rattle.comment_parser.specs.State.{fresh}
+use Rattle.comment_parser.specs.Next.{stepAnswer, nextOf}
+use Rattle.comment_parser.specs.Events.{paired, seen}
+use Rattle.comment_parser.specs.Notes.{Answers}
+use Rattle.comment_parser.specs.declared.CommentItem.{CommentItem}
+use Rattle.comment_parser.specs.declared.Next.{Next}
+use Rattle.comment_parser.specs.declared.Next.the-variants.{Event, End, Refused}
+use Rattle.comment_parser.specs.declared.NextNoted.{NextNoted}
+use Rattle.comment_parser.specs.declared.ParserState.{ParserState}
+use Rattle.comment_parser.proofs.Next.{the-type}
+use Rattle.comment_parser.proofs.Progress.{GoesOn}
+use Rattle.comment_parser.proofs.Events.{seen-on, stays-accepted}
+use Rattle.comment_parser.proofs.Reached.{Reached, Lies, fresh-reached, seen-lies}
+
+-- a state on the way, with the note to go on with
+pub record Along (buf : List ℕ) (st : ParserState) (note : Note) : Type 0 where
+  pub reached : Reached st
+  pub noted : Holds (take (st .end) buf) note
+
+pub along-starts : (buf : List ℕ) (start end : ℕ) (note : Note) → note .to ≡ 0 → Along buf (fresh start end) note
+along-starts buf start end note z = record { reached = fresh-reached start end; noted = holds-nothing (take end buf) note z }
+
+-- an answer that is no event, told by its tag, as where a `let .. else` takes the else
+no-event : (n : Next) → OneOf (1 ∷ 2 ∷ []) (tagOf the-type n) → paired (stepAnswer n .event) (stepAnswer n .state) ≡ none
+no-event (Event i t) (inl e) = absurd (omega (arith, e))
+no-event (Event i t) (inr e) = absurd (omega (arith, e))
+no-event (End t) h = refl
+no-event (Refused r t) h = refl
+
+-- what `next_noted` promises of its answer
+module _ {buf : List ℕ} {st : ParserState} {note : Note} {r : NextNoted} (a : Along buf st note)
+    (says : Holds (take (st .end) buf) note → Answers (take (st .end) buf) (nextOf rust buf st) r) where
+  along-seen : (n : Next) → r .next ≡ n → seen rust buf st ≡ paired (stepAnswer n .event) (stepAnswer n .state)
+  unfolding seen
+  along-seen n e = rw (← says (a .noted) .is, e)
+
+  pub along-end : OneOf (1 ∷ 2 ∷ []) (tagOf the-type (r .next)) → seen rust buf st ≡ none
+  along-end k = along-seen (r .next) refl ∙ no-event (r .next) k
+
+  -- an event: it is seen, less is to come, its numbers fit a word, and the way goes on from the state after it
+  module _ {i : CommentItem} {t : ParserState} (e : r .next ≡ Event i t) where
+    pub along-event : seen rust buf st ≡ some (i, t)
+    along-event = along-seen (Event i t) e
+
+    pub along-less : GoesOn st t
+    along-less = seen-on rust buf st (i, t) along-event
+
+    lies : Lies i t
+    lies = seen-lies rust buf st (i, t) along-event (a .reached)
+
+    pub along-within : Within 0 longest (placedOf i)
+    along-within =
+        let k = stays-accepted rust buf st (i, t) along-event in
+        record { above = omega arith; placed = lies .within .placed; ordered = lies .within .ordered; below = omega (arith, lies .within .below, k) }
+
+    pub along-on : Along buf t (r .note)
+    along-on = record { reached = lies .reached; noted = rw (along-less .same-end) (says (a .noted) .holds) }

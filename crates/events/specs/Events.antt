@@ -1,0 +1,29 @@
+-- The event records of a span: one for each event of the list that demand 3 speaks of.
+use Prim.Native.Nat.{ℕ}
+use mathlib.Core.List.{List, [], _∷_, map}
+use Rattle.byte_rules.specs.Reading.{rust}
+use Rattle.comment_parser.specs.Item.{placedOf}
+use Rattle.comment_parser.specs.Events.{eventsFrom, eventsOf}
+use Rattle.comment_parser.specs.declared.Placed.{Placed}
+use Rattle.comment_parser.specs.declared.CommentItem.{CommentItem}
+use Rattle.comment_parser.specs.declared.ParserState.{ParserState}
+
+-- how many words a record has
+abbrev pub eventWidth : ℕ
+eventWidth = 4
+
+-- kind, place, start, end
+abbrev pub placedWords : Placed → List ℕ
+placedWords p = p .kind ∷ p .place ∷ p .start ∷ p .end ∷ []
+
+-- the record of an event of a buffer
+abbrev pub eventRecord : List ℕ → CommentItem → List ℕ
+eventRecord buf i = placedWords (placedOf i)
+
+-- the records of the events from a state on
+abbrev pub recordsFrom : List ℕ → ParserState → List (List ℕ)
+recordsFrom buf st = map (eventRecord buf) (eventsFrom rust buf st)
+
+-- the records of a span's events
+abbrev pub eventRecords : List ℕ → ℕ → ℕ → List (List ℕ)
+eventRecords buf start end = map (eventRecord buf) (eventsOf rust buf start end)
