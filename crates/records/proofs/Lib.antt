@@ -3,3 +3,4 @@ pub mod ProducedLaws
 pub mod Laying
 pub mod Answers
 pub mod Texts
+pub mod Both

@@ -1,11 +1,13 @@
 // Replays cases through the library. Reads cases (oracle/REPLAY.md) from standard input until it ends, and writes their answers to standard output.
-// It knows the ops L R U D K O W S V. At what is no case, at any other op and at an input that ends inside a case it writes `bad case` and ends.
+// It knows the ops L R U D K O W S V P Q F. At what is no case, at any other op and at an input that ends inside a case it writes `bad case` and ends.
 // A new op is a function in the file of its group, and an arm in `answer`.
 mod bytes;
+mod credits;
 mod dates;
 mod header;
 mod input;
 mod lines;
+mod lists;
 mod names;
 mod output;
 mod states;
@@ -40,8 +42,22 @@ fn area() -> [u8; 65536]
     [0u8; 65536]
 }
 
+// The largest room of a list op.
+fn word_area() -> [u32; 524288]
+    ensures { λ r. ⌜ 524288 ≡ length r ⌝ }
+{
+    [0u32; 524288]
+}
+
 // The answer of a case, by its op.
-fn answer(h: Header, payload: &[u8], room: &mut [u8], out: &mut [u8], at: usize) -> Told
+fn answer(
+    h: Header,
+    payload: &[u8],
+    room: &mut [u8],
+    words: &mut [u32],
+    out: &mut [u8],
+    at: usize,
+) -> Told
     requires { ⌜ at ≤ length (now out) ⌝ }
     ensures { λ r. ⌜ r .at ≤ length (now (out .exit)) ⌝ }
 {
@@ -56,6 +72,9 @@ fn answer(h: Header, payload: &[u8], room: &mut [u8], out: &mut [u8], at: usize)
         b'W' => dates::writing(h, room, out, at),
         b'S' => steps::stepping(h, payload, out, at),
         b'V' => steps::own_unescaping(h, payload, room, out, at),
+        b'P' => credits::listing(h, payload, words, out, at),
+        b'Q' => credits::stepping(h, payload, out, at),
+        b'F' => credits::flagging(payload, out, at),
         _ => no_case(at),
     }
 }
@@ -67,6 +86,7 @@ fn with_payload(
     input: &mut [u8],
     payload: &mut [u8],
     room: &mut [u8],
+    words: &mut [u32],
     out: &mut [u8],
     at: usize,
 ) -> State
@@ -90,7 +110,7 @@ fn with_payload(
             more: false,
         };
     }
-    let told = answer(h, &payload[..n], room, out, at);
+    let told = answer(h, &payload[..n], room, words, out, at);
     if told.is_case {
         State {
             source: rest,
@@ -112,6 +132,7 @@ fn turn(
     input: &mut [u8],
     payload: &mut [u8],
     room: &mut [u8],
+    words: &mut [u32],
     out: &mut [u8],
 ) -> State
     requires { ⌜ Within (state .source) (length (now input)) × (state .at ≤ length (now out)) ⌝ }
@@ -135,11 +156,20 @@ fn turn(
             more: false,
         };
     }
-    with_payload(read_header(&header), rest, input, payload, room, out, at)
+    with_payload(
+        read_header(&header),
+        rest,
+        input,
+        payload,
+        room,
+        words,
+        out,
+        at,
+    )
 }
 
 // All cases. A proved loop has to end, and nothing says that the input does: so the turns are counted down, from a number that no run uses up.
-fn run(input: &mut [u8], payload: &mut [u8], room: &mut [u8], out: &mut [u8]) {
+fn run(input: &mut [u8], payload: &mut [u8], room: &mut [u8], words: &mut [u32], out: &mut [u8]) {
     let mut turns = u64::MAX;
     let mut state = State {
         source: Source { at: 0, end: 0 },
@@ -147,7 +177,7 @@ fn run(input: &mut [u8], payload: &mut [u8], room: &mut [u8], out: &mut [u8]) {
         more: true,
     };
     while turns > 0 && state.more {
-        state = turn(state, input, payload, room, out);
+        state = turn(state, input, payload, room, words, out);
         turns -= 1;
     }
     flush(out, state.at);
@@ -157,6 +187,7 @@ fn main() {
     let mut input = area();
     let mut payload = area();
     let mut room = area();
+    let mut words = word_area();
     let mut out = area();
-    run(&mut input, &mut payload, &mut room, &mut out);
+    run(&mut input, &mut payload, &mut room, &mut words, &mut out);
 }

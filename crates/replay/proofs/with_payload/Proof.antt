@@ -76,11 +76,11 @@ same-length-7 c = search needs
 same-length-8 : tie.Need-same-length-8
 same-length-8 c = search needs
 
-returns-3 : tie.Need-returns-3
-returns-3 c = search needs
-
 same-length-9 : tie.Need-same-length-9
 same-length-9 c = search needs
+
+returns-3 : tie.Need-returns-3
+returns-3 c = search needs
 
 same-length-10 : tie.Need-same-length-10
 same-length-10 c = search needs
@@ -90,6 +90,12 @@ same-length-11 c = search needs
 
 same-length-12 : tie.Need-same-length-12
 same-length-12 c = search needs
+
+same-length-13 : tie.Need-same-length-13
+same-length-13 c = search needs
+
+same-length-14 : tie.Need-same-length-14
+same-length-14 c = search needs
 
 returns-4 : tie.Need-returns-4
 returns-4 c = search needs
@@ -121,9 +127,11 @@ with-payload-spec =
     same-length-6
     same-length-7
     same-length-8
-    returns-3
     same-length-9
+    returns-3
     same-length-10
     same-length-11
     same-length-12
+    same-length-13
+    same-length-14
     returns-4)

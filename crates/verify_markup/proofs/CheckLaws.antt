@@ -1,0 +1,64 @@
+-- Laws of the check: its refusals, and that over tables that are not refused the search is membership.
+-- Assumes nothing.
+use Prim.Native.Nat.{ℕ, _*_, _≤_, _<_}
+use mathlib.Core.Path.{_≡_, refl, ap, fun-ext}
+use mathlib.Core.List.{List}
+use mathlib.Core.Option.{Option, none, some}
+use native.Mathlib.Omega.{arith}
+use lib.ListN.{length}
+use borrow.Author.Tests.{le-leb, lt-leb}
+use Rattle.records.specs.Answer.{Answer, done, short, spanRefusal}
+use Rattle.records.specs.Records.{laid, listAnswer, listLeft}
+use Rattle.records.proofs.Laying.{Given}
+use Rattle.name_table.specs.Search.{isEntry, isIn}
+use Rattle.name_table.proofs.Laws.{searched-good}
+use Rattle.verify_markup.specs.Diag.{diagWidth}
+use Rattle.verify_markup.specs.Items.{lookedUp}
+use Rattle.verify_markup.specs.Check.{Table, Bibliography, lent, notLent, Tables, orElse, refusalOf, bibliographyRefusal, tablesRefusal, checkRefusal, tagsOf, namesBy, found}
+
+-- ---- refusals
+
+module _ (buf : List ℕ) (start end : ℕ) (t : Tables) where
+  pub refused-span : (a : Answer) → some a ≡ spanRefusal (length buf) start end → some a ≡ checkRefusal buf start end t
+  unfolding checkRefusal
+  refused-span a e = rw (checkRefusal, ← e)
+
+  module _ (good : none ≡ spanRefusal (length buf) start end) where
+    pub refused-tables : tablesRefusal t ≡ checkRefusal buf start end t
+    unfolding checkRefusal
+    refused-tables = rw (checkRefusal, ← good)
+
+-- ---- good tables
+
+both-none : (a b : Option Answer) → none ≡ orElse a b → (none ≡ a) × (none ≡ b)
+both-none none b h = (refl, h)
+both-none (some a) b h = let z : _≡_ {A = ℕ} 0 1 = cc in absurd (omega arith)
+
+found-good : (number : ℕ) (t : Table) → none ≡ refusalOf number t → found (t .bytes) (t .ends) ≡ isIn (t .bytes) (t .ends)
+found-good number t h = fun-ext (λ name. ap isEntry (searched-good (t .bytes) (t .ends) name number h))
+
+tags-good : (b : Bibliography) → none ≡ bibliographyRefusal b → tagsOf found b ≡ tagsOf isIn b
+tags-good (lent t) h = ap lookedUp (found-good 3 t h)
+tags-good notLent h = refl
+
+-- over good tables the search is membership
+pub names-good : (t : Tables) → none ≡ tablesRefusal t → namesBy found t ≡ namesBy isIn t
+unfolding tablesRefusal
+names-good t h =
+    let a = both-none (refusalOf 1 (t .symbols)) _ h in
+    let b = both-none (refusalOf 2 (t .labels)) (bibliographyRefusal (t .bibliography)) (a .1) in
+    let p = found-good 1 (t .symbols) (a .0) in
+    let q = found-good 2 (t .labels) (b .0) in
+    let r = tags-good (t .bibliography) (b .1) in
+    λ i. record { isSymbol = p i; isLabel = q i; tags = r i }
+
+-- ---- the answer, by the count and the room
+
+module _ {all all′ : List (List ℕ)} (same : all ≡ all′) (r : Option Answer) (good : none ≡ r) (n : ℕ) (counted : n ≡ length all) (out₀ out : List ℕ) (is : out ≡ laid diagWidth all out₀) where
+  pub listed-done : diagWidth * n ≤ length out₀ → Given (done n) out r diagWidth all′ out₀
+  unfolding listAnswer listLeft
+  listed-done h = rw (← good, ← same, ← counted) (simp (le-leb _ _ h), is)
+
+  pub listed-short : length out₀ < diagWidth * n → Given (short n) out r diagWidth all′ out₀
+  unfolding listAnswer listLeft
+  listed-short h = rw (← good, ← same, ← counted) (simp (lt-leb _ _ h), is)

@@ -1,0 +1,5 @@
+mod DiagLaws
+mod TextLaws
+mod ItemLaws
+mod ListLaws
+mod CheckLaws

@@ -1,0 +1,107 @@
+-- `driver::check` meets its contract: its answer and the room are those of a list call with the check's refusal, and over good tables the search is membership.
+-- Assumes nothing.
+use borrow.Author.Needs.{needs}
+use mathlib.Core.Path.{_≡_, sym, ap, _∙_}
+use mathlib.Core.Option.{none}
+use native.Mathlib.Omega.{arith}
+use lib.ListN.{length}
+use Rattle.records.specs.Answer.{spanRefusal}
+use Rattle.records.proofs.Answers.{span-accepted}
+use Rattle.records.proofs.Laying.{given-refused}
+use Rattle.name_table.specs.Search.{isIn}
+use Rattle.verify_markup.specs.Diag.{diagWidth}
+use Rattle.verify_markup.specs.Items.{Names}
+use Rattle.verify_markup.specs.List.{diagnostics}
+use Rattle.verify_markup.specs.Check.{Tables, tablesRefusal, checkRefusal, found, bibliographyOf, tables, namesBy}
+use Rattle.verify_markup.proofs.CheckLaws.{refused-span, refused-tables, names-good, listed-done, listed-short}
+use Rattle.verify_markup.proofs.driver.check.Statement.{statement}
+use Rattle.verify_markup.proofs.driver.check.Tie as tie
+
+check-span-requires : tie.Need-check-span-requires
+check-span-requires c κs = search needs
+
+enum-known-why : tie.Need-enum-known-why
+enum-known-why c = search needs
+
+returns : tie.Need-returns
+returns c = let s = c .before .before .before in given-refused _ _ diagWidth _ _ (refused-span _ _ _ _ _ (rw (c .before .why .given .1) at (s .check-span .ensures)))
+
+enum-told : tie.Need-enum-told
+enum-told c = search needs
+
+-- the span is not refused
+module _ (c : tie.After-enum-told) where
+  abbrev entry : tie.Start
+  entry = c .before .before .before .before .before .before .before .before .before .before .before
+
+  span-good : none ≡ spanRefusal (length (entry .args .buf .now)) (entry .args .start) (entry .args .end)
+  span-good = rw (c .enum-told .given .1) at (c .before .before .check-span .ensures)
+
+check-tables-requires : tie.Need-check-tables-requires
+check-tables-requires c κs = search needs
+
+enum-known-why-2 : tie.Need-enum-known-why-2
+enum-known-why-2 c = search needs
+
+returns-2 : tie.Need-returns-2
+returns-2 c =
+    let t = c .before .before .before in
+    given-refused _ _ diagWidth _ _ (rw (c .before .why2 .given .1) at (t .check-tables .ensures) ∙ refused-tables _ _ _ _ (span-good (t .before)))
+
+enum-told-2 : tie.Need-enum-told-2
+enum-told-2 c = search needs
+
+-- no table is refused
+module _ (c : tie.After-enum-told2) where
+  abbrev lentTables : Tables
+  lentTables = let a = entry (c .before .before .before) .args in tables (a .sb .now) (a .se .now) (a .lb .now) (a .le .now) (bibliographyOf (a .tags) (a .bb .now) (a .be .now))
+
+  tables-good : none ≡ tablesRefusal lentTables
+  tables-good = rw (c .enum-told2 .given .1) at (c .before .before .check-tables .ensures)
+
+  good : none ≡ checkRefusal (entry (c .before .before .before) .args .buf .now) (entry (c .before .before .before) .args .start) (entry (c .before .before .before) .args .end) lentTables
+  good = tables-good ∙ refused-tables _ _ _ _ (span-good (c .before .before .before))
+
+  all-same : let a = entry (c .before .before .before) .args in
+      diagnostics (namesBy found lentTables) (a .buf .now) (a .start) (a .end) ≡ diagnostics (namesBy isIn lentTables) (a .buf .now) (a .start) (a .end)
+  all-same = ap (λ (n : Names). let a = entry (c .before .before .before) .args in diagnostics n (a .buf .now) (a .start) (a .end)) (names-good lentTables tables-good)
+
+lay-all-requires : tie.Need-lay-all-requires
+lay-all-requires c κs =
+    let e = c .before .before .before .before in
+    let s = span-accepted _ _ _ (sym (span-good e)) in
+    record { order = s .1; inside = s .2; short = s .0 }
+
+same-length : tie.Need-same-length
+same-length c = search needs
+
+returns-3 : tie.Need-returns-3
+returns-3 c =
+    let l = c .before .before .before in
+    listed-done (all-same (l .before .before)) _ (good (l .before .before)) _ (l .lay-all .ensures .0) _ _ (l .lay-all .ensures .1) (omega arith)
+
+same-length-2 : tie.Need-same-length-2
+same-length-2 c = search needs
+
+returns-4 : tie.Need-returns-4
+returns-4 c =
+    let l = c .before .before .before in
+    listed-short (all-same (l .before .before)) _ (good (l .before .before)) _ (l .lay-all .ensures .0) _ _ (l .lay-all .ensures .1) (omega arith)
+
+pub check-spec : {M : Type 1} → statement M
+check-spec =
+    tie.close
+    (tie.spec
+    check-span-requires
+    enum-known-why
+    returns
+    enum-told
+    check-tables-requires
+    enum-known-why-2
+    returns-2
+    enum-told-2
+    lay-all-requires
+    same-length
+    returns-3
+    same-length-2
+    returns-4)

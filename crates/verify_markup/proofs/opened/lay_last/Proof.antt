@@ -1,0 +1,64 @@
+-- `opened::lay_last` meets its contract: two writers, the second behind the first.
+-- Assumes nothing.
+use borrow.Author.Needs.{needs}
+use native.Mathlib.Omega.{arith}
+use Rattle.verify_markup.proofs.DiagLaws.{wrote-inside, pair-wrote, pair-laid, pair-words, pair-count}
+use Rattle.verify_markup.specs.List.{lastDiags}
+use Rattle.verify_markup.proofs.ListLaws.{few-unclosed}
+use Rattle.verify_markup.proofs.opened.lay_last.Statement.{statement}
+use Rattle.verify_markup.proofs.opened.lay_last.Tie as tie
+
+lay-unclosed-requires : tie.Need-lay-unclosed-requires
+lay-unclosed-requires c κs = search needs
+
+mul-lay-unclosed : tie.Need-mul-lay-unclosed
+mul-lay-unclosed c = let w = c .before .before in omega (arith, wrote-inside (few-unclosed (w .before .before .before .before .args .buf .now) (w .before .before .before .before .args .end) 9 (w .before .before .before .before .args .modes .math)) _ _ (w .lay-unclosed .result) (w .lay-unclosed .ensures .1) (w .lay-unclosed .ensures .0), w .before .before .before .before .good)
+
+sub-lay-unclosed : tie.Need-sub-lay-unclosed
+sub-lay-unclosed c = let w = c .before .before in wrote-inside (few-unclosed (w .before .before .before .before .args .buf .now) (w .before .before .before .before .args .end) 9 (w .before .before .before .before .args .modes .math)) _ _ (w .lay-unclosed .result) (w .lay-unclosed .ensures .1) (w .lay-unclosed .ensures .0) .0
+
+part-lay-unclosed-start : tie.Need-part-lay-unclosed-start
+part-lay-unclosed-start c = let w = c .before .before in wrote-inside (few-unclosed (w .before .before .before .before .args .buf .now) (w .before .before .before .before .args .end) 9 (w .before .before .before .before .args .modes .math)) _ _ (w .lay-unclosed .result) (w .lay-unclosed .ensures .1) (w .lay-unclosed .ensures .0) .0
+
+part-lay-unclosed-end : tie.Need-part-lay-unclosed-end
+part-lay-unclosed-end c = search needs
+
+lay-unclosed-requires-2 : tie.Need-lay-unclosed-requires-2
+lay-unclosed-requires-2 c κs = search needs
+
+add-t12 : tie.Need-add-t12
+add-t12 c =
+    let z = c .before .before .before in
+    let w = z .before .before .before .before in
+    omega (arith, pair-words (few-unclosed (w .before .before .before .before .args .buf .now) (w .before .before .before .before .args .end) 9 (w .before .before .before .before .args .modes .math)) (few-unclosed (w .before .before .before .before .args .buf .now) (w .before .before .before .before .args .end) 10 (w .before .before .before .before .args .modes .html)) _ _ _ (w .lay-unclosed .result) (z .lay-unclosed2 .result) (w .lay-unclosed .ensures .1) (w .lay-unclosed .ensures .0) (z .lay-unclosed2 .ensures .1) (z .lay-unclosed2 .ensures .0), w .before .before .before .before .good)
+
+add-t14 : tie.Need-add-t14
+add-t14 c =
+    let z = c .before .before .before .before .before in
+    let w = z .before .before .before .before in
+    omega (arith, pair-count (few-unclosed (w .before .before .before .before .args .buf .now) (w .before .before .before .before .args .end) 9 (w .before .before .before .before .args .modes .math)) (few-unclosed (w .before .before .before .before .args .buf .now) (w .before .before .before .before .args .end) 10 (w .before .before .before .before .args .modes .html)) _ _ _ (w .lay-unclosed .result) (z .lay-unclosed2 .result) (w .lay-unclosed .ensures .1) (w .lay-unclosed .ensures .0) (z .lay-unclosed2 .ensures .1) (z .lay-unclosed2 .ensures .0))
+
+same-length : tie.Need-same-length
+same-length c = search needs
+
+returns : tie.Need-returns
+unfolding lastDiags
+returns c =
+    let z = c .before .before .before .before .before in
+    let w = z .before .before .before .before in
+    (pair-wrote (few-unclosed (w .before .before .before .before .args .buf .now) (w .before .before .before .before .args .end) 9 (w .before .before .before .before .args .modes .math)) (few-unclosed (w .before .before .before .before .args .buf .now) (w .before .before .before .before .args .end) 10 (w .before .before .before .before .args .modes .html)) _ _ _ (w .lay-unclosed .result) (z .lay-unclosed2 .result) (w .lay-unclosed .ensures .1) (w .lay-unclosed .ensures .0) (z .lay-unclosed2 .ensures .1) (z .lay-unclosed2 .ensures .0), pair-laid (few-unclosed (w .before .before .before .before .args .buf .now) (w .before .before .before .before .args .end) 9 (w .before .before .before .before .args .modes .math)) (few-unclosed (w .before .before .before .before .args .buf .now) (w .before .before .before .before .args .end) 10 (w .before .before .before .before .args .modes .html)) _ _ _ (w .lay-unclosed .result) (z .lay-unclosed2 .result) (w .lay-unclosed .ensures .1) (w .lay-unclosed .ensures .0) (z .lay-unclosed2 .ensures .1) (z .lay-unclosed2 .ensures .0))
+
+pub lay-last-spec : {M : Type 1} → statement M
+lay-last-spec =
+    tie.close
+    (tie.spec
+    lay-unclosed-requires
+    mul-lay-unclosed
+    sub-lay-unclosed
+    part-lay-unclosed-start
+    part-lay-unclosed-end
+    lay-unclosed-requires-2
+    add-t12
+    add-t14
+    same-length
+    returns)

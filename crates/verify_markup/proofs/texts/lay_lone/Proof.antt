@@ -1,0 +1,133 @@
+-- `texts::lay_lone` meets its contract. The loop's invariant: the records of the bytes from i on are to be laid behind those before.
+-- Assumes nothing.
+use borrow.Author.Needs.{needs}
+use Prim.Native.Nat.{ℕ, _+_, _-_, _≤_}
+use mathlib.Core.List.{List, _++_}
+use native.Mathlib.Omega.{arith}
+use lib.ListN.{length}
+use Rattle.records.proofs.Laying.{Laying, back, laying-starts, all-wrote, all-laid}
+use Rattle.verify_markup.specs.Diag.{diagWidth, diag, when}
+use Rattle.unescape.specs.Unescape.{isEscape, stepAt}
+use Rattle.unescape.proofs.Laws.{step-some, step-within}
+use Rattle.verify_markup.specs.Texts.{loneAt, loneFrom}
+use Rattle.verify_markup.proofs.DiagLaws.{few-when, wrote-count, turn-laid}
+use Rattle.verify_markup.proofs.TextLaws.{lone-on, lone-ends}
+use Rattle.verify_markup.proofs.texts.lay_lone.Statement.{statement}
+use Rattle.verify_markup.proofs.texts.lay_lone.Tie as tie
+
+abbrev Inv-loop : tie.InvT-loop
+Inv-loop kind buf start end room₀ i₀ at₀ n₀ room i at n = (n + start ≤ i) × Laying diagWidth (loneFrom buf kind end (end - start) start) (loneFrom buf kind end (end - i) i) room₀ room at n
+
+abbrev μ-loop : tie.MeasureT-loop
+μ-loop kind buf start end room₀ i₀ at₀ n₀ room i at n = end - i
+
+loop-holds : tie.Need-loop-holds Inv-loop μ-loop
+loop-holds c = (omega arith, laying-starts diagWidth _ _)
+
+lone-at-requires : tie.Need-lone-at-requires Inv-loop μ-loop
+lone-at-requires c κs = search needs
+
+mul-lay-if : tie.Need-mul-lay-if Inv-loop μ-loop
+mul-lay-if c = let l = c .before .before in omega (arith, l .loop .inv .1 .inside, l .loop .inv .1 .long, l .before .before .before .good)
+
+sub-lay-if : tie.Need-sub-lay-if Inv-loop μ-loop
+sub-lay-if c = search needs
+
+part-lay-if-start : tie.Need-part-lay-if-start Inv-loop μ-loop
+part-lay-if-start c = search needs
+
+part-lay-if-end : tie.Need-part-lay-if-end Inv-loop μ-loop
+part-lay-if-end c = search needs
+
+lay-if-requires : tie.Need-lay-if-requires Inv-loop μ-loop
+lay-if-requires c κs = search needs
+
+-- after `lay_if`: the record, if there was one, is laid, and the rest is to come
+module _ (c : tie.After-lay-if Inv-loop μ-loop) where
+  abbrev head : tie.At-loop Inv-loop μ-loop
+  head = c .before .before .before .before
+
+  abbrev entry : tie.Start Inv-loop μ-loop
+  entry = head .before .before .before
+
+  abbrev Left : List (List ℕ) → Type 0
+  Left rest =
+      let a = entry .args in
+      Laying diagWidth (loneFrom (a .buf .now) (a .kind) (a .end) (a .end - a .start) (a .start)) rest (a .room .now) (head .loop .room) (head .loop .at) (head .loop .n)
+
+  abbrev here : ℕ
+  here = head .loop .i
+
+  abbrev rest : List (List ℕ)
+  rest = let a = entry .args in let on = here + stepAt (isEscape (a .kind)) (a .buf .now) here in loneFrom (a .buf .now) (a .kind) (a .end) (a .end - on) on
+
+  to-come : Left (when (loneAt (entry .args .buf .now) (entry .args .kind) here) (diag (entry .args .buf .now) 2 here 0 0) ++ rest)
+  to-come = rw (lone-on (entry .args .buf .now) (entry .args .kind) (entry .args .end) here (c .before .before .before .loop-test .taken)) at (head .loop .inv .1)
+
+  turn : (head .loop .at + c .lay-if .result .words ≤ length (head .loop .room))
+      × Laying diagWidth (let a = entry .args in loneFrom (a .buf .now) (a .kind) (a .end) (a .end - a .start) (a .start)) rest (entry .args .room .now)
+      (back (head .loop .at) (head .loop .room) (c .lay-if .last .1 .1 .1 .1 .1 .1 .0)) (head .loop .at + c .lay-if .result .words) (head .loop .n + c .lay-if .result .count)
+  turn = turn-laid (c .before .before .lone-at .result) _ (c .before .before .lone-at .ensures) (entry .args .buf .now) 2 here 0 0 to-come _ (c .lay-if .result) (c .lay-if .ensures .1) (c .lay-if .ensures .0)
+
+  one : c .lay-if .result .count ≤ 1
+  one = wrote-count (few-when (c .before .before .lone-at .result) (entry .args .buf .now) 2 here 0 0) _ _ (c .lay-if .result) (c .lay-if .ensures .1) (c .lay-if .ensures .0)
+
+add-at : tie.Need-add-at Inv-loop μ-loop
+add-at c = omega (arith, turn (c .before .before .before) .0, c .before .before .before .before .before .before .before .loop .inv .1 .long, c .before .before .before .before .before .before .before .before .before .before .good)
+
+add-n : tie.Need-add-n Inv-loop μ-loop
+add-n c = omega (arith, one (c .before .before .before .before), c .before .before .before .before .before .before .before .before .loop .inv .0)
+
+unescape-step-requires : tie.Need-unescape-step-requires Inv-loop μ-loop
+unescape-step-requires c κs = search needs
+
+add-i : tie.Need-add-i Inv-loop μ-loop
+add-i c =
+    let t = c .before .before .before .before .before .before .before .before in
+    let a = t .before .before .before .before .args in
+    omega (arith, c .unescape-step .ensures, step-within (isEscape (a .kind)) (a .buf .now) (t .before .loop .i) (omega arith))
+
+loop-less : tie.Need-loop-less Inv-loop μ-loop
+loop-less c =
+    let t = c .before .before .before .before .before .before .before .before in
+    let a = t .before .before .before .before .args in
+    omega (arith, c .unescape-step .ensures, step-some (isEscape (a .kind)) (a .buf .now) (t .before .loop .i))
+
+loop-again : tie.Need-loop-again Inv-loop μ-loop
+loop-again c =
+    let w = c .before .before .before .before .before in
+    let t = c .before .before .before .before .before .before .before .before in
+    let a = t .before .before .before .before .args in
+    let s = step-some (isEscape (a .kind)) (a .buf .now) (t .before .loop .i) in
+    (omega (arith, c .unescape-step .ensures, one w, t .before .loop .inv .0), rw (c .unescape-step .ensures) (turn w .1))
+
+same-length : tie.Need-same-length Inv-loop μ-loop
+same-length c = search needs
+
+returns : tie.Need-returns Inv-loop μ-loop
+returns c =
+    let l = c .before .loop in
+    let done = rw (lone-ends _ _ _ _ (c .loop-test .left)) at (l .inv .1) in
+    (all-wrote done, all-laid done)
+
+pub lay-lone-spec : {M : Type 1} → statement M
+lay-lone-spec =
+    tie.close
+    (tie.spec
+    Inv-loop
+    μ-loop
+    loop-holds
+    lone-at-requires
+    mul-lay-if
+    sub-lay-if
+    part-lay-if-start
+    part-lay-if-end
+    lay-if-requires
+    add-at
+    add-n
+    unescape-step-requires
+    add-i
+    loop-less
+    loop-again
+    same-length
+    returns)

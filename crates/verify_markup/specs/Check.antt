@@ -1,0 +1,88 @@
+-- The comment check: its refusals, and the names of its tables.
+use Prim.Native.Nat.{ℕ}
+use mathlib.Core.Bool.{Bool}
+use mathlib.Core.List.{List}
+use mathlib.Core.Option.{Option, none, some}
+use lib.ListN.{length}
+use Rattle.records.specs.Answer.{Answer, spanRefusal}
+use Rattle.records.specs.Records.{listAnswer, listLeft}
+use Rattle.name_table.specs.Table.{tableRefusal}
+use Rattle.name_table.specs.Search.{isEntry, isIn, searched}
+use Rattle.verify_markup.specs.Diag.{diagWidth}
+use Rattle.verify_markup.specs.List.{diagnostics}
+use Rattle.verify_markup.specs.Items.{Tags, lookedUp, notLookedUp, Names}
+use Rattle.verify_markup.specs.declared.TagLookup.{TagLookup}
+use Rattle.verify_markup.specs.declared.TagLookup.the-variants.{LookedUp, NotLookedUp}
+
+-- a lent table: bytes and ends
+pub record Table : Type 0 where
+  pub bytes : List ℕ
+  pub ends : List ℕ
+
+-- a bibliography is lent, or none is
+pub data Bibliography : Type 0 where
+  lent : Table → Bibliography
+  notLent : Bibliography
+
+pub record Tables : Type 0 where
+  pub symbols : Table
+  pub labels : Table
+  pub bibliography : Bibliography
+
+-- the first refusal of two
+abbrev pub orElse : Option Answer → Option Answer → Option Answer
+orElse (some a) r = some a
+orElse none r = r
+
+-- 4 for the lowest table: 1 symbols, 2 labels, 3 bibliography
+abbrev pub refusalOf : ℕ → Table → Option Answer
+refusalOf number t = tableRefusal number (t .bytes) (t .ends)
+
+abbrev pub bibliographyRefusal : Bibliography → Option Answer
+bibliographyRefusal (lent t) = refusalOf 3 t
+bibliographyRefusal notLent = none
+
+unfoldable pub tablesRefusal : Tables → Option Answer
+tablesRefusal t = orElse (refusalOf 1 (t .symbols)) (orElse (refusalOf 2 (t .labels)) (bibliographyRefusal (t .bibliography)))
+
+-- the lowest number: the buffer, the span, the tables
+unfoldable pub checkRefusal : List ℕ → ℕ → ℕ → Tables → Option Answer
+checkRefusal buf start end t = orElse (spanRefusal (length buf) start end) (tablesRefusal t)
+
+-- with a bibliography tags are looked up in it; with none they are not looked up
+abbrev pub tagsOf : (List ℕ → List ℕ → List ℕ → Bool) → Bibliography → Tags
+tagsOf has (lent t) = lookedUp (has (t .bytes) (t .ends))
+tagsOf has notLent = notLookedUp
+
+-- the names of the tables, by a test of whether a table has a name
+abbrev pub namesBy : (List ℕ → List ℕ → List ℕ → Bool) → Tables → Names
+namesBy has t = record {
+  isSymbol = has (t .symbols .bytes) (t .symbols .ends);
+  isLabel = has (t .labels .bytes) (t .labels .ends);
+  tags = tagsOf has (t .bibliography);
+}
+
+abbrev pub namesOf : Tables → Names
+namesOf = namesBy isIn
+
+-- the test that the code makes: over good tables it is membership
+abbrev pub found : List ℕ → List ℕ → List ℕ → Bool
+found bytes ends name = isEntry (searched bytes ends name)
+
+-- the tables as they are lent to the code
+abbrev pub table : List ℕ → List ℕ → Table
+table bytes ends = record { bytes = bytes; ends = ends }
+
+abbrev pub bibliographyOf : TagLookup → List ℕ → List ℕ → Bibliography
+bibliographyOf LookedUp bytes ends = lent (table bytes ends)
+bibliographyOf NotLookedUp bytes ends = notLent
+
+abbrev pub tables : List ℕ → List ℕ → List ℕ → List ℕ → Bibliography → Tables
+tables sb se lb le bib = record { symbols = table sb se; labels = table lb le; bibliography = bib }
+
+-- what the check answers, and what it leaves in a room
+abbrev pub checkAnswer : List ℕ → ℕ → ℕ → Tables → ℕ → Answer
+checkAnswer buf start end t room = listAnswer (checkRefusal buf start end t) diagWidth (diagnostics (namesOf t) buf start end) room
+
+abbrev pub checkLeft : List ℕ → ℕ → ℕ → Tables → List ℕ → List ℕ
+checkLeft buf start end t room = listLeft (checkRefusal buf start end t) diagWidth (diagnostics (namesOf t) buf start end) room

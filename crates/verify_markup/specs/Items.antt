@@ -1,0 +1,73 @@
+-- What each event gives (document 01, "Diagnostics").
+use Prim.Native.Nat.{ℕ, zero, suc, _+_, _-_}
+use mathlib.Core.Bool.{Bool, false, cond, not, _||_}
+use mathlib.Core.List.{List, [], _∷_, _++_}
+use lib.Dec.{eqb}
+use Rattle.look.specs.Look.{byteAt}
+use Rattle.scans.specs.Marks.{tick, tilde}
+use Rattle.unescape.specs.Unescape.{isEscape, unescaped, part}
+use Rattle.unescape.specs.declared.Escape.the-variants as escape
+use Rattle.comment_parser.specs.declared.CommentItem.{CommentItem}
+use Rattle.comment_parser.specs.declared.CommentItem.the-variants.{Text, LineBreak, StartMathMode, EndMathMode, MathToken, Label, Url, StartHtml, EndHtml, StartSubscript, EndSubscript, StartItalic, EndItalic, BibTag}
+use Rattle.verify_markup.specs.Diag.{diag, when, spaceBefore, spaceAfter}
+use Rattle.verify_markup.specs.Texts.{written}
+
+-- tags are looked up, by a test that tells which are known, or not looked up
+pub data Tags : Type 0 where
+  lookedUp : (List ℕ → Bool) → Tags
+  notLookedUp : Tags
+
+abbrev pub noTag : Tags → List ℕ → Bool
+noTag (lookedUp isTag) tag = not (isTag tag)
+noTag notLookedUp tag = false
+
+-- which tokens and labels are known, unescaped, and whether tags are looked up
+pub record Names : Type 0 where
+  pub isSymbol : List ℕ → Bool
+  pub isLabel : List ℕ → Bool
+  pub tags : Tags
+
+module _ (buf : List ℕ) where
+  -- 4
+  unfoldable pub tokenDiags : (List ℕ → Bool) → ℕ → ℕ → List (List ℕ)
+  tokenDiags isSymbol a e = when (not (isSymbol (unescaped (isEscape escape.Math) (part buf a e)))) (diag buf 4 a e 0)
+
+  -- 1 for the byte before the tilde, 1 for the byte after, then 2 at each lone escape, 3
+  unfoldable pub tildeDiags : ℕ → List (List ℕ)
+  tildeDiags i = spaceBefore buf i ++ spaceAfter buf i
+
+  unfoldable pub linkDiags : ℕ → ℕ → ℕ → List (List ℕ)
+  linkDiags i a e = tildeDiags i ++ written buf escape.Label a e
+
+  -- 5 if empty, else 6 if not found
+  unfoldable pub nameDiags : (List ℕ → Bool) → ℕ → ℕ → ℕ → List (List ℕ)
+  nameDiags isLabel i a e = cond (eqb a e) (diag buf 5 i 0 0 ∷ []) (when (not (isLabel (unescaped (isEscape escape.Label) (part buf a e)))) (diag buf 6 a e 0))
+
+  unfoldable pub labelDiags : (List ℕ → Bool) → ℕ → ℕ → ℕ → List (List ℕ)
+  labelDiags isLabel i a e = linkDiags i a e ++ nameDiags isLabel i a e
+
+  -- 7 at each backtick or `~` of the `left` bytes from i on of the tag from a to e
+  unfoldable pub tagMarks : ℕ → ℕ → ℕ → ℕ → List (List ℕ)
+  tagMarks a e zero i = []
+  tagMarks a e (suc left) i = when (byteAt buf i tick || byteAt buf i tilde) (diag buf 7 i a e) ++ tagMarks a e left (i + 1)
+
+  -- then 8; a tag is looked up as it stands
+  unfoldable pub tagDiags : Tags → ℕ → ℕ → List (List ℕ)
+  tagDiags tags a e = tagMarks a e (e - a) a ++ when (noTag tags (part buf a e)) (diag buf 8 a e 0)
+
+  -- `html` says whether the event stands in HTML
+  abbrev pub itemDiags : Names → Bool → CommentItem → List (List ℕ)
+  itemDiags n html (Text s) = written buf (escape.Text html) (s .start) (s .end)
+  itemDiags n html (LineBreak i) = []
+  itemDiags n html (StartMathMode i) = spaceAfter buf i
+  itemDiags n html (EndMathMode i) = spaceBefore buf i
+  itemDiags n html (MathToken s) = tokenDiags (n .isSymbol) (s .start) (s .end)
+  itemDiags n html (Label i s) = labelDiags (n .isLabel) i (s .start) (s .end)
+  itemDiags n html (Url i s) = linkDiags i (s .start) (s .end)
+  itemDiags n html (StartHtml i) = []
+  itemDiags n html (EndHtml i) = []
+  itemDiags n html (StartSubscript i) = []
+  itemDiags n html (EndSubscript i) = []
+  itemDiags n html (StartItalic i) = []
+  itemDiags n html (EndItalic i) = []
+  itemDiags n html (BibTag s) = tagDiags (n .tags) (s .start) (s .end)

@@ -1,0 +1,5 @@
+pub mod Diag
+pub mod Texts
+pub mod Items
+pub mod List
+pub mod Check

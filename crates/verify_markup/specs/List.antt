@@ -1,0 +1,62 @@
+-- The diagnostics of a span: those of each event, one after the other along the events, with the modes carried; last 9, then 10.
+use Prim.Native.Nat.{ℕ, _≤_}
+use mathlib.Core.Bool.{Bool, true, false}
+use mathlib.Core.List.{List, [], _∷_, _++_}
+use Rattle.byte_rules.specs.Reading.{rust}
+use Rattle.records.specs.Answer.{longest}
+use Rattle.scans.specs.declared.Place.{Place}
+use Rattle.scans.specs.declared.Place.the-variants.{At, Nowhere}
+use Rattle.comment_parser.specs.Events.{eventsOf}
+use Rattle.comment_parser.specs.declared.CommentItem.{CommentItem}
+use Rattle.comment_parser.specs.declared.CommentItem.the-variants.{Text, LineBreak, StartMathMode, EndMathMode, MathToken, Label, Url, StartHtml, EndHtml, StartSubscript, EndSubscript, StartItalic, EndItalic, BibTag}
+use Rattle.verify_markup.specs.declared.Modes.{Modes}
+use Rattle.verify_markup.specs.Diag.{diag}
+use Rattle.verify_markup.specs.Items.{Names, itemDiags}
+
+-- an opening's place fits a word
+abbrev pub Opened : Place → Type 0
+Opened (At i) = i ≤ longest
+Opened Nowhere = Unit
+
+abbrev pub isOpen : Place → Bool
+isOpen (At i) = true
+isOpen Nowhere = false
+
+-- where math and HTML were opened, if they are open
+abbrev pub modes : Place → Place → Modes
+modes m h = record { math = m; html = h }
+
+abbrev pub closed : Modes
+closed = modes Nowhere Nowhere
+
+abbrev pub modesAfter : Modes → CommentItem → Modes
+modesAfter m (Text s) = m
+modesAfter m (LineBreak i) = m
+modesAfter m (StartMathMode i) = modes (At i) (m .html)
+modesAfter m (EndMathMode i) = modes Nowhere (m .html)
+modesAfter m (MathToken s) = m
+modesAfter m (Label i s) = m
+modesAfter m (Url i s) = m
+modesAfter m (StartHtml i) = modes (m .math) (At i)
+modesAfter m (EndHtml i) = modes (m .math) Nowhere
+modesAfter m (StartSubscript i) = m
+modesAfter m (EndSubscript i) = m
+modesAfter m (StartItalic i) = m
+modesAfter m (EndItalic i) = m
+modesAfter m (BibTag s) = m
+
+module _ (buf : List ℕ) (end : ℕ) where
+  -- a mode that is open at the end of the span
+  abbrev pub unclosed : ℕ → Place → List (List ℕ)
+  unclosed kind (At i) = diag buf kind i end 0 ∷ []
+  unclosed kind Nowhere = []
+
+  unfoldable pub lastDiags : Modes → List (List ℕ)
+  lastDiags m = unclosed 9 (m .math) ++ unclosed 10 (m .html)
+
+  unfoldable pub diagsFrom : Names → Modes → List CommentItem → List (List ℕ)
+  diagsFrom n m [] = lastDiags m
+  diagsFrom n m (i ∷ is) = itemDiags buf n (isOpen (m .html)) i ++ diagsFrom n (modesAfter m i) is
+
+unfoldable pub diagnostics : Names → List ℕ → ℕ → ℕ → List (List ℕ)
+diagnostics n buf start end = diagsFrom buf end n closed (eventsOf rust buf start end)

@@ -1,0 +1,135 @@
+// The events of a span, read once, with the diagnostics of each laid behind those before.
+use crate::Modes;
+use crate::TagLookup;
+use crate::items::lay_item;
+use crate::opened::lay_last;
+use comment_parser::Next;
+use comment_parser::ParserState;
+use name_table::check_table;
+use records::Checked;
+use records::Filled;
+use records::check_span;
+use scans::Note;
+use scans::Place;
+ghost use mathlib.Core.Path.{_≡_};
+ghost use lib.ListN.{length};
+ghost use Rattle.records.specs.Answer.{filledAnswer, checkedAnswer};
+ghost use Rattle.records.specs.Records.{laid};
+ghost use Rattle.verify_markup.specs.Diag.{diagWidth, InBuf};
+ghost use Rattle.verify_markup.specs.List.{diagnostics};
+ghost use Rattle.verify_markup.specs.Check.{found, bibliographyOf, tables, namesBy, tablesRefusal, checkAnswer, checkLeft};
+
+// How many words a diagnostic's record has.
+pub const DIAG_WIDTH: usize = 4;
+
+// Lays the diagnostics of the span, as many as fit, and counts them.
+fn lay_all(
+    buf: &[u8],
+    start: usize,
+    end: usize,
+    sb: &[u8],
+    se: &[u32],
+    lb: &[u8],
+    le: &[u32],
+    tags: TagLookup,
+    bb: &[u8],
+    be: &[u32],
+    out: &mut [u32],
+) -> usize
+    requires { ⌜ InBuf (now buf) start end ⌝ }
+    ensures count { λ r. ⌜ r ≡ length (diagnostics (namesBy found (tables (now (sb .entry)) (now (se .entry)) (now (lb .entry)) (now (le .entry)) (bibliographyOf tags (now (bb .entry)) (now (be .entry))))) (now (buf .entry)) start end) ⌝ }
+    ensures left { λ r. ⌜ now (out .exit) ≡ laid diagWidth (diagnostics (namesBy found (tables (now (sb .entry)) (now (se .entry)) (now (lb .entry)) (now (le .entry)) (bibliographyOf tags (now (bb .entry)) (now (be .entry))))) (now (buf .entry)) start end) (now (out .entry)) ⌝ }
+{
+    let mut st = ParserState::new(start, end);
+    let mut note = Note::nothing();
+    let mut modes = Modes {
+        math: Place::Nowhere,
+        html: Place::Nowhere,
+    };
+    let mut at: usize = 0;
+    let mut n: usize = 0;
+    loop {
+        let noted = st.next_noted(buf, note);
+        let next = noted.next;
+        let later = noted.note;
+        let Next::Event(item, after) = next else {
+            break;
+        };
+        let html = modes.in_html();
+        let wrote = lay_item(
+            buf,
+            html,
+            item,
+            sb,
+            se,
+            lb,
+            le,
+            tags,
+            bb,
+            be,
+            &mut out[at..],
+        );
+        at += wrote.words;
+        n += wrote.count;
+        modes = modes.after(item);
+        st = after;
+        note = later;
+    }
+    let last = lay_last(buf, modes, end, &mut out[at..]);
+    n + last.count
+}
+
+// 4 for the lowest table that is malformed.
+fn check_tables(
+    sb: &[u8],
+    se: &[u32],
+    lb: &[u8],
+    le: &[u32],
+    tags: TagLookup,
+    bb: &[u8],
+    be: &[u32],
+) -> Checked
+    ensures { λ r. ⌜ checkedAnswer r ≡ tablesRefusal (tables (now (sb .entry)) (now (se .entry)) (now (lb .entry)) (now (le .entry)) (bibliographyOf tags (now (bb .entry)) (now (be .entry)))) ⌝ }
+{
+    if let Checked::Refused(why) = check_table(1, sb, se) {
+        return Checked::Refused(why);
+    }
+    if let Checked::Refused(why) = check_table(2, lb, le) {
+        return Checked::Refused(why);
+    }
+    match tags {
+        TagLookup::LookedUp => check_table(3, bb, be),
+        TagLookup::NotLookedUp => Checked::Good,
+    }
+}
+
+// The comment check, with tags looked up in the third table or not looked up.
+pub(crate) fn check(
+    buf: &[u8],
+    start: usize,
+    end: usize,
+    sb: &[u8],
+    se: &[u32],
+    lb: &[u8],
+    le: &[u32],
+    tags: TagLookup,
+    bb: &[u8],
+    be: &[u32],
+    out: &mut [u32],
+) -> Filled
+    ensures answer { λ r. ⌜ filledAnswer r ≡ checkAnswer (now (buf .entry)) start end (tables (now (sb .entry)) (now (se .entry)) (now (lb .entry)) (now (le .entry)) (bibliographyOf tags (now (bb .entry)) (now (be .entry)))) (length (now (out .entry))) ⌝ }
+    ensures left { λ r. ⌜ now (out .exit) ≡ checkLeft (now (buf .entry)) start end (tables (now (sb .entry)) (now (se .entry)) (now (lb .entry)) (now (le .entry)) (bibliographyOf tags (now (bb .entry)) (now (be .entry)))) (now (out .entry)) ⌝ }
+{
+    if let Checked::Refused(why) = check_span(buf.len(), start, end) {
+        return Filled::Refused(why);
+    }
+    if let Checked::Refused(why) = check_tables(sb, se, lb, le, tags, bb, be) {
+        return Filled::Refused(why);
+    }
+    let n = lay_all(buf, start, end, sb, se, lb, le, tags, bb, be, out);
+    if n <= out.len() / DIAG_WIDTH {
+        Filled::Done(n)
+    } else {
+        Filled::Short(n)
+    }
+}

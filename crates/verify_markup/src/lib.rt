@@ -1,0 +1,86 @@
+// The comment check: diagnostics of a comment's markup, against lent tables of symbols, labels and, or not, a bibliography.
+mod driver;
+mod items;
+mod laying;
+mod opened;
+mod texts;
+
+use driver::check;
+use records::Filled;
+use scans::Place;
+ghost use mathlib.Core.Path.{_≡_};
+ghost use lib.ListN.{length};
+ghost use Rattle.records.specs.Answer.{filledAnswer};
+ghost use Rattle.verify_markup.specs.Check.{lent, notLent, table, tables, checkAnswer, checkLeft};
+
+// Where math and HTML were opened, if they are open.
+pub struct Modes {
+    pub math: Place,
+    pub html: Place,
+}
+
+// Whether tags are looked up in the third table.
+pub enum TagLookup {
+    LookedUp,
+    NotLookedUp,
+}
+
+// The diagnostics of the span, with a bibliography: its bytes and ends are `bb` and `be`, those of the symbols `sb` and `se`, of the labels `lb` and `le`.
+pub fn verify_markup(
+    buf: &[u8],
+    start: usize,
+    end: usize,
+    sb: &[u8],
+    se: &[u32],
+    lb: &[u8],
+    le: &[u32],
+    bb: &[u8],
+    be: &[u32],
+    out: &mut [u32],
+) -> Filled
+    ensures answer { λ r. ⌜ filledAnswer r ≡ checkAnswer (now (buf .entry)) start end (tables (now (sb .entry)) (now (se .entry)) (now (lb .entry)) (now (le .entry)) (lent (table (now (bb .entry)) (now (be .entry))))) (length (now (out .entry))) ⌝ }
+    ensures left { λ r. ⌜ now (out .exit) ≡ checkLeft (now (buf .entry)) start end (tables (now (sb .entry)) (now (se .entry)) (now (lb .entry)) (now (le .entry)) (lent (table (now (bb .entry)) (now (be .entry))))) (now (out .entry)) ⌝ }
+{
+    check(
+        buf,
+        start,
+        end,
+        sb,
+        se,
+        lb,
+        le,
+        TagLookup::LookedUp,
+        bb,
+        be,
+        out,
+    )
+}
+
+// The same with no bibliography: tags are not looked up, and no third table is looked at.
+pub fn verify_markup_no_tags(
+    buf: &[u8],
+    start: usize,
+    end: usize,
+    sb: &[u8],
+    se: &[u32],
+    lb: &[u8],
+    le: &[u32],
+    out: &mut [u32],
+) -> Filled
+    ensures answer { λ r. ⌜ filledAnswer r ≡ checkAnswer (now (buf .entry)) start end (tables (now (sb .entry)) (now (se .entry)) (now (lb .entry)) (now (le .entry)) notLent) (length (now (out .entry))) ⌝ }
+    ensures left { λ r. ⌜ now (out .exit) ≡ checkLeft (now (buf .entry)) start end (tables (now (sb .entry)) (now (se .entry)) (now (lb .entry)) (now (le .entry)) notLent) (now (out .entry)) ⌝ }
+{
+    check(
+        buf,
+        start,
+        end,
+        sb,
+        se,
+        lb,
+        le,
+        TagLookup::NotLookedUp,
+        lb,
+        le,
+        out,
+    )
+}
