@@ -1,0 +1,3 @@
+pub mod View
+pub mod Listed
+pub mod Unescaping

@@ -1,0 +1,98 @@
+// The parser in the two forms that are proved by hand: a state that the caller lends, and a view that holds the buffer together with the state.
+mod listed;
+mod unescaping;
+
+use comment_parser::CommentItem;
+use comment_parser::Next;
+use comment_parser::ParserState;
+pub use listed::events_by_view;
+use records::Checked;
+use records::Refusal;
+use records::check_span;
+pub use unescaping::Form;
+ghost use mathlib.Core.Path.{_≡_};
+ghost use lib.ListN.{length};
+ghost use denote.Ref.{now};
+ghost use Rattle.byte_rules.specs.Reading.{rust};
+ghost use Rattle.records.specs.Answer.{checkedAnswer, spanRefusal};
+ghost use Rattle.comment_parser.specs.Next.{nextOf};
+ghost use Rattle.comment_view.specs.View.{gives, viewOf};
+
+// What a step gives. The state after it is left where the state was.
+pub enum Step {
+    Event(CommentItem),
+    End,
+    Refused(Refusal),
+}
+
+// A step, and the state after it.
+struct Stepped {
+    step: Step,
+    state: ParserState,
+}
+
+// The parser's `next`, its answer parted from the state.
+fn read_step(state: ParserState, buf: &[u8]) -> Stepped
+    ensures { λ r. ⌜ gives (r .step) (r .state) ≡ nextOf rust (now (buf .entry)) state ⌝ }
+{
+    let next = state.next(buf);
+    match next {
+        Next::Event(item, state) => Stepped {
+            step: Step::Event(item),
+            state,
+        },
+        Next::End(state) => Stepped {
+            step: Step::End,
+            state,
+        },
+        Next::Refused(why, state) => Stepped {
+            step: Step::Refused(why),
+            state,
+        },
+    }
+}
+
+// The next event, or the end. The state in the caller's record moves on; after a refusal (1 or 3) it is as it was.
+pub fn advance(st: &mut ParserState, buf: &[u8]) -> Step
+    ensures { λ r. ⌜ gives r (now (st .exit)) ≡ nextOf rust (now (buf .entry)) (now (st .entry)) ⌝ }
+{
+    let n = read_step(*st, buf);
+    *st = n.state;
+    n.step
+}
+
+// A buffer, and where a parser of it stands.
+pub struct View<'a> {
+    pub buf: &'a [u8],
+    pub state: ParserState,
+}
+
+// A view, beside the answer to the span that it was asked for.
+pub struct Opened<'a> {
+    pub answer: Checked,
+    pub view: View<'a>,
+}
+
+impl<'a> View<'a> {
+    // A view of a span. A buffer that is too long (1) and a span that is none of it (2) are refused; the view is then the same, and each of its steps is refused.
+    pub fn open(buf: &'a [u8], start: usize, end: usize) -> Opened<'a>
+        ensures { λ r. ⌜ (checkedAnswer (r .answer) ≡ spanRefusal (length (now (buf .entry))) start end) × (r .view ≡ viewOf (buf .entry) start end) ⌝ }
+    {
+        let answer = check_span(buf.len(), start, end);
+        let state = ParserState::new(start, end);
+        Opened {
+            answer,
+            view: View { buf, state },
+        }
+    }
+
+    // The next event, or the end. The view moves on; after a refusal (1 or 3) it is as it was.
+    pub fn next_item(&mut self) -> Step
+        ensures { λ r. ⌜ (gives r (now (self .exit) .state) ≡ nextOf rust (now (now (self .entry) .buf)) (now (self .entry) .state)) × (now (self .exit) .buf ≡ now (self .entry) .buf) ⌝ }
+    {
+        let mut state = self.state;
+        let step = advance(&mut state, self.buf);
+        self.state = state;
+        step
+    }
+}

@@ -1,0 +1,79 @@
+use Prim.Native.Nat.{_≤_, _-_}
+use lib.ListN.{length}
+use native.Mathlib.Omega.{arith}
+use borrow.Author.Needs.{needs}
+use Rattle.view_listing.proofs.show_words.Statement.{statement}
+use Rattle.view_listing.proofs.show_words.Tie as tie
+use Rattle.view_listing.proofs.show_words.Reads as reads
+use Rattle.view_listing.proofs.show_words.Lts as lts
+use Rattle.io.proofs.write_all.Reads as write-all-reads
+use Rattle.view_listing.proofs.show_word.Reads as show-word-reads
+
+abbrev Inv-loop : tie.InvT-loop
+Inv-loop room i₀ t3 t4 i = i ≤ length room
+
+abbrev μ-loop : tie.MeasureT-loop
+μ-loop room i₀ t3 t4 i = length room - i
+
+loop-holds : tie.Need-loop-holds Inv-loop μ-loop
+loop-holds c = search needs
+
+mul-show-word : tie.Need-mul-show-word Inv-loop μ-loop
+mul-show-word c = search needs
+
+shared-slice-read-show-word : tie.Need-shared-slice-read-show-word Inv-loop μ-loop
+shared-slice-read-show-word c = search needs
+
+show-word-requires : tie.Need-show-word-requires Inv-loop μ-loop
+show-word-requires c κs = search needs
+
+add-i : tie.Need-add-i Inv-loop μ-loop
+add-i c = search needs
+
+slice-aggregate-write-all : tie.Need-slice-aggregate-write-all Inv-loop μ-loop
+slice-aggregate-write-all c = search needs
+
+write-all-requires : tie.Need-write-all-requires Inv-loop μ-loop
+write-all-requires c κs = search needs
+
+loop-less : tie.Need-loop-less Inv-loop μ-loop
+loop-less c = search needs
+
+loop-again : tie.Need-loop-again Inv-loop μ-loop
+loop-again c = search needs
+
+slice-aggregate-write-all-2 : tie.Need-slice-aggregate-write-all-2 Inv-loop μ-loop
+slice-aggregate-write-all-2 c = search needs
+
+write-all-requires-2 : tie.Need-write-all-requires-2 Inv-loop μ-loop
+write-all-requires-2 c κs = search needs
+
+loop-less-2 : tie.Need-loop-less-2 Inv-loop μ-loop
+loop-less-2 c = search needs
+
+loop-again-2 : tie.Need-loop-again-2 Inv-loop μ-loop
+loop-again-2 c = search needs
+
+returns : tie.Need-returns Inv-loop μ-loop
+returns c = search needs
+
+pub show-words-spec : {M : Type 1} → statement M
+show-words-spec =
+    tie.close
+    (tie.spec
+    Inv-loop
+    μ-loop
+    loop-holds
+    mul-show-word
+    shared-slice-read-show-word
+    show-word-requires
+    add-i
+    slice-aggregate-write-all
+    write-all-requires
+    loop-less
+    loop-again
+    slice-aggregate-write-all-2
+    write-all-requires-2
+    loop-less-2
+    loop-again-2
+    returns)
