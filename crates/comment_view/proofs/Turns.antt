@@ -3,17 +3,16 @@
 use Prim.Native.Nat.{ℕ, _+_, _-_, _*_, _≤_, _<_}
 use mathlib.Core.Path.{_≡_, refl, ap, sym, _∙_}
 use mathlib.Core.Bool.{Bool, true, false}
-use mathlib.Core.List.{List, [], _∷_, _++_, map, append-nil}
+use mathlib.Core.List.{List, [], _∷_, _++_, map}
 use mathlib.Core.Option.{Option, none, some}
 use native.Mathlib.Omega.{arith}
-use lib.ListN.{length, take, drop, length-drop, drop-of-length-le}
-use lib.Seq.{take-all}
+use lib.ListN.{length, take, length-drop}
 use Rattle.byte_rules.specs.Reading.{rust}
 use Rattle.records.specs.Answer.{longest}
 use Rattle.records.specs.Records.{laid, used, wroteOf}
 use Rattle.records.specs.declared.Wrote.{Wrote}
 use Rattle.records.proofs.Laws.{Wide, laid-long}
-use Rattle.records.proofs.Laying.{Laying, tail, back, laying-starts, laying-goes, all-counted, all-laid}
+use Rattle.records.proofs.Laying.{Laying, tail, back, tail-is, back-is, laying-starts, laying-goes, all-counted, all-laid}
 use Rattle.comment_parser.specs.State.{fresh}
 use Rattle.comment_parser.specs.Item.{placedOf, Within}
 use Rattle.comment_parser.specs.Next as parser
@@ -30,13 +29,6 @@ use Rattle.comment_view.specs.declared.Step.{Step}
 use Rattle.comment_view.specs.declared.Step.the-variants.{Event, End, Refused}
 use Rattle.comment_view.specs.declared.listed.Listing.{Listing}
 use Rattle.comment_parser.proofs.Reached.{Reached, seen-lies, fresh-reached}
-
--- a tail that is lent, and the whole when it has come back
-pub tail-is : (at : ℕ) (out : List ℕ) → tail at out ≡ drop at out
-tail-is at out = take-all (length out - at) (drop at out) (omega (arith, length-drop at out))
-
-pub back-is : (at : ℕ) (out last : List ℕ) → back at out last ≡ take at out ++ last
-back-is at out last = rw (drop-of-length-le (drop at out) {i = length out - at} (omega (arith, length-drop at out)), append-nil)
 
 -- an event's record laid in the tail, by what its writer answered
 module _ (done : Listing) (p : Placed) (out : List ℕ) (w : Wrote) (wrote : w ≡ wroteOf eventWidth (placedWords p ∷ []) (length (tail (done .words) out))) where

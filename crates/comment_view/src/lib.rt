@@ -74,7 +74,8 @@ pub struct Opened<'a> {
 }
 
 impl<'a> View<'a> {
-    // A view of a span. A buffer that is too long (1) and a span that is none of it (2) are refused; the view is then the same, and each of its steps is refused.
+    // A view of a span. A buffer that is too long (1) and a span that is none of it (2) are refused; the view is made all the same, gives no event
+    // and stays as it is (`refused-view` in proofs/Answers.antt).
     pub fn open(buf: &'a [u8], start: usize, end: usize) -> Opened<'a>
         ensures { λ r. ⌜ (checkedAnswer (r .answer) ≡ spanRefusal (length (now (buf .entry))) start end) × (r .view ≡ viewOf (buf .entry) start end) ⌝ }
     {

@@ -1,12 +1,9 @@
-// Ops P, Q and F: credits and notices.
+// Ops Q and F: credits and notices, one at a time, and the flags.
 use crate::header::Header;
-use crate::lists::emit_list;
-use crate::lists::fill_words;
 use crate::names::bit;
 use crate::output::Told;
 use crate::output::emit_line;
 use crate::output::emit_record;
-use crate::output::no_case;
 use crate::output::told_line;
 use crate::texts::number_of;
 use parentheticals::Discouragements;
@@ -17,33 +14,8 @@ use parentheticals::ParentheticalState;
 use parentheticals::Span;
 use parentheticals::Started;
 use parentheticals::Step;
-use parentheticals::parentheticals;
 ghost use Prim.Native.Nat.{_≤_};
 ghost use lib.ListN.{length};
-
-// The parentheticals listed in the whole of `words`.
-fn listed(h: Header, payload: &[u8], words: &mut [u32], out: &mut [u8], at: usize) -> Told
-    requires { ⌜ at ≤ length (now out) ⌝ }
-    ensures { λ r. ⌜ r .at ≤ length (now (out .exit)) ⌝ }
-{
-    fill_words(words);
-    let filled = parentheticals(payload, h.a as usize, h.b as usize, words);
-    Told {
-        is_case: true,
-        at: emit_list(out, at, filled, words),
-    }
-}
-
-pub fn listing(h: Header, payload: &[u8], words: &mut [u32], out: &mut [u8], at: usize) -> Told
-    requires { ⌜ at ≤ length (now out) ⌝ }
-    ensures { λ r. ⌜ r .at ≤ length (now (out .exit)) ⌝ }
-{
-    let lent = h.room as usize;
-    if words.len() < lent {
-        return no_case(at);
-    }
-    listed(h, payload, &mut words[..lent], out, at)
-}
 
 // How many parentheticals some steps gave, and whether the last step answered the end.
 struct Counted {

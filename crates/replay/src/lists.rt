@@ -1,7 +1,12 @@
-// List ops: the words that are lent, and the answer.
+// Ops E and P, which list records: the words that are lent, and the answer.
+use crate::header::Header;
+use crate::output::Told;
 use crate::output::emit_line;
 use crate::output::emit_record;
+use crate::output::no_case;
 use crate::texts::number_of;
+use events::events;
+use parentheticals::parentheticals;
 use records::Filled;
 ghost use Prim.Native.Nat.{_+_, _≤_, _<_};
 ghost use lib.ListN.{length};
@@ -11,7 +16,7 @@ fn word_pattern(i: usize) -> u32 {
     (i % 65521) as u32 + 1
 }
 
-pub fn fill_words(words: &mut [u32]) {
+fn fill_words(words: &mut [u32]) {
     let mut i = 0;
     while i < words.len() {
         words[i] = word_pattern(i);
@@ -68,6 +73,37 @@ fn emit_seven(out: &mut [u8], at: usize, words: &[u32], i: usize) -> usize
     )
 }
 
+// The line of the four words at i.
+fn emit_four(out: &mut [u8], at: usize, words: &[u32], i: usize) -> usize
+    requires { ⌜ (at ≤ length (now out)) × (i + 4 ≤ length (now words)) ⌝ }
+    ensures { λ r. ⌜ r ≤ length (now (out .exit)) ⌝ }
+{
+    emit_record(
+        out,
+        at,
+        &[
+            wide_word(words[i]),
+            wide_word(words[i + 1]),
+            wide_word(words[i + 2]),
+            wide_word(words[i + 3]),
+        ],
+    )
+}
+
+// The line of the record at i: it has four words or seven.
+fn emit_words(out: &mut [u8], at: usize, words: &[u32], i: usize, width: usize) -> usize
+    requires { ⌜ (at ≤ length (now out)) × (i + width ≤ length (now words)) ⌝ }
+    ensures { λ r. ⌜ r ≤ length (now (out .exit)) ⌝ }
+{
+    if width == 4 {
+        return emit_four(out, at, words, i);
+    }
+    if width == 7 {
+        return emit_seven(out, at, words, i);
+    }
+    at
+}
+
 // How much of the output buffer is used, and how many words were written out.
 struct Listed {
     at: usize,
@@ -75,7 +111,7 @@ struct Listed {
 }
 
 // The lines of the first `count` records, as far as they are in the words.
-fn emit_sevens(out: &mut [u8], at: usize, words: &[u32], count: usize) -> Listed
+fn emit_records(out: &mut [u8], at: usize, words: &[u32], count: usize, width: usize) -> Listed
     requires { ⌜ at ≤ length (now out) ⌝ }
     ensures { λ r. ⌜ r .at ≤ length (now (out .exit)) ⌝ }
 {
@@ -83,37 +119,106 @@ fn emit_sevens(out: &mut [u8], at: usize, words: &[u32], count: usize) -> Listed
     let mut i = 0;
     let mut done = 0;
     while done < count {
-        if words.len() - i < 7 {
+        if words.len() - i < width {
             return Listed { at: to, words: i };
         }
-        to = emit_seven(out, to, words, i);
-        i += 7;
+        to = emit_words(out, to, words, i, width);
+        i += width;
         done += 1;
     }
     Listed { at: to, words: i }
 }
 
 // Answer, count, the records that were written, and what else was touched.
-fn emit_listed(out: &mut [u8], at: usize, answer: u64, count: usize, words: &[u32]) -> usize
+fn emit_listed(
+    out: &mut [u8],
+    at: usize,
+    op: u8,
+    width: usize,
+    answer: u64,
+    count: usize,
+    words: &[u32],
+) -> usize
     requires { ⌜ at ≤ length (now out) ⌝ }
     ensures { λ r. ⌜ r ≤ length (now (out .exit)) ⌝ }
 {
-    let head = emit_line(out, at, b"P", &[answer, count as u64]);
-    let listed = emit_sevens(out, head, words, count);
+    let head = emit_line(out, at, &[op], &[answer, count as u64]);
+    let listed = emit_records(out, head, words, count, width);
     emit_words_touched(out, listed.at, words, listed.words)
 }
 
-// What a list call answered, with what it left in the words.
-pub fn emit_list(out: &mut [u8], at: usize, filled: Filled, words: &[u32]) -> usize
+// What the list call of an op answered, with what it left in the words.
+fn emit_list(
+    out: &mut [u8],
+    at: usize,
+    op: u8,
+    width: usize,
+    filled: Filled,
+    words: &[u32],
+) -> usize
     requires { ⌜ at ≤ length (now out) ⌝ }
     ensures { λ r. ⌜ r ≤ length (now (out .exit)) ⌝ }
 {
     match filled {
-        Filled::Done(n) => emit_listed(out, at, 0, n, words),
-        Filled::Short(n) => emit_listed(out, at, 7, n, words),
+        Filled::Done(n) => emit_listed(out, at, op, width, 0, n, words),
+        Filled::Short(n) => emit_listed(out, at, op, width, 7, n, words),
         Filled::Refused(why) => {
-            let to = emit_line(out, at, b"P", &[number_of(why), 0]);
+            let to = emit_line(out, at, &[op], &[number_of(why), 0]);
             emit_words_touched(out, to, words, 0)
         }
     }
+}
+
+// The events of the span, listed in the whole of `words`.
+fn list_events(h: Header, payload: &[u8], words: &mut [u32], out: &mut [u8], at: usize) -> Told
+    requires { ⌜ at ≤ length (now out) ⌝ }
+    ensures { λ r. ⌜ r .at ≤ length (now (out .exit)) ⌝ }
+{
+    fill_words(words);
+    let filled = events(payload, h.a as usize, h.b as usize, words);
+    Told {
+        is_case: true,
+        at: emit_list(out, at, b'E', 4, filled, words),
+    }
+}
+
+// The parentheticals of the span, listed in the whole of `words`.
+fn list_parentheticals(
+    h: Header,
+    payload: &[u8],
+    words: &mut [u32],
+    out: &mut [u8],
+    at: usize,
+) -> Told
+    requires { ⌜ at ≤ length (now out) ⌝ }
+    ensures { λ r. ⌜ r .at ≤ length (now (out .exit)) ⌝ }
+{
+    fill_words(words);
+    let filled = parentheticals(payload, h.a as usize, h.b as usize, words);
+    Told {
+        is_case: true,
+        at: emit_list(out, at, b'P', 7, filled, words),
+    }
+}
+
+// The list of the header's op, in as many words as the header lends.
+fn list_by_op(h: Header, payload: &[u8], words: &mut [u32], out: &mut [u8], at: usize) -> Told
+    requires { ⌜ at ≤ length (now out) ⌝ }
+    ensures { λ r. ⌜ r .at ≤ length (now (out .exit)) ⌝ }
+{
+    if h.op == b'E' {
+        return list_events(h, payload, words, out, at);
+    }
+    list_parentheticals(h, payload, words, out, at)
+}
+
+pub fn listing(h: Header, payload: &[u8], words: &mut [u32], out: &mut [u8], at: usize) -> Told
+    requires { ⌜ at ≤ length (now out) ⌝ }
+    ensures { λ r. ⌜ r .at ≤ length (now (out .exit)) ⌝ }
+{
+    let lent = h.room as usize;
+    if words.len() < lent {
+        return no_case(at);
+    }
+    list_by_op(h, payload, &mut words[..lent], out, at)
 }

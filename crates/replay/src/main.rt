@@ -1,5 +1,5 @@
 // Replays cases through the library. Reads cases (oracle/REPLAY.md) from standard input until it ends, and writes their answers to standard output.
-// It knows the ops L R U D K O W S V P Q F. At what is no case, at any other op and at an input that ends inside a case it writes `bad case` and ends.
+// It knows the ops L R U D K O W S V E P Q F. At what is no case, at any other op and at an input that ends inside a case it writes `bad case` and ends.
 // A new op is a function in the file of its group, and an arm in `answer`.
 mod bytes;
 mod credits;
@@ -72,7 +72,7 @@ fn answer(
         b'W' => dates::writing(h, room, out, at),
         b'S' => steps::stepping(h, payload, out, at),
         b'V' => steps::own_unescaping(h, payload, room, out, at),
-        b'P' => credits::listing(h, payload, words, out, at),
+        b'E' | b'P' => lists::listing(h, payload, words, out, at),
         b'Q' => credits::stepping(h, payload, out, at),
         b'F' => credits::flagging(payload, out, at),
         _ => no_case(at),

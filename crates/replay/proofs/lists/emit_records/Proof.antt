@@ -1,17 +1,17 @@
--- `emit_sevens` meets its contract. The measure is the number of records that are left.
+-- `emit_records` meets its contract. The measure is the number of records that are left.
 -- Assumes nothing.
 use Prim.Native.Nat.{_-_, _≤_}
 use mathlib.Core.Path.{_≡_, refl}
 use native.Mathlib.Omega.{arith}
 use lib.ListN.{length}
-use Rattle.replay.proofs.lists.emit_sevens.Statement.{statement}
-use Rattle.replay.proofs.lists.emit_sevens.Tie as tie
+use Rattle.replay.proofs.lists.emit_records.Statement.{statement}
+use Rattle.replay.proofs.lists.emit_records.Tie as tie
 
 abbrev Inv-loop : tie.InvT-loop
-Inv-loop out₀ at words count to₀ i₀ done₀ out to i done = (to ≤ length out) × ((i ≤ length words) × (length out ≡ length out₀))
+Inv-loop out₀ at words count width to₀ i₀ done₀ out to i done = (to ≤ length out) × ((i ≤ length words) × (length out ≡ length out₀))
 
 abbrev μ-loop : tie.MeasureT-loop
-μ-loop out₀ at words count to₀ i₀ done₀ out to i done = count - done
+μ-loop out₀ at words count width to₀ i₀ done₀ out to i done = count - done
 
 loop-holds : tie.Need-loop-holds Inv-loop μ-loop
 loop-holds c = (omega arith, (omega arith, refl))
@@ -25,8 +25,8 @@ same-length c = omega arith
 returns : tie.Need-returns Inv-loop μ-loop
 returns c = omega arith
 
-emit-seven-requires : tie.Need-emit-seven-requires Inv-loop μ-loop
-emit-seven-requires c κs = (omega arith, omega arith)
+emit-words-requires : tie.Need-emit-words-requires Inv-loop μ-loop
+emit-words-requires c κs = (omega arith, omega arith)
 
 add-i : tie.Need-add-i Inv-loop μ-loop
 add-i c = omega arith
@@ -46,8 +46,8 @@ same-length-2 c = omega arith
 returns-2 : tie.Need-returns-2 Inv-loop μ-loop
 returns-2 c = omega arith
 
-pub emit-sevens-spec : {M : Type 1} → statement M
-emit-sevens-spec =
+pub emit-records-spec : {M : Type 1} → statement M
+emit-records-spec =
     tie.close
     (tie.spec
     Inv-loop
@@ -56,7 +56,7 @@ emit-sevens-spec =
     sub-if1
     same-length
     returns
-    emit-seven-requires
+    emit-words-requires
     add-i
     add-done
     loop-less

@@ -4,8 +4,8 @@ use mathlib.Core.Path.{sym}
 use native.Mathlib.Omega.{arith}
 use lib.Seq.{length-take-le}
 use borrow.Author.Needs.{needs}
-use Rattle.replay.proofs.credits.listing.Statement.{statement}
-use Rattle.replay.proofs.credits.listing.Tie as tie
+use Rattle.replay.proofs.lists.listing.Statement.{statement}
+use Rattle.replay.proofs.lists.listing.Tie as tie
 
 cast-lent : tie.Need-cast-lent
 cast-lent c = search needs
@@ -16,14 +16,14 @@ no-case-requires c κs = search needs
 returns : tie.Need-returns
 returns c = search needs
 
-slice-relend-prefix-listed : tie.Need-slice-relend-prefix-listed
-slice-relend-prefix-listed c = search needs
+slice-relend-prefix-list-by-op : tie.Need-slice-relend-prefix-list-by-op
+slice-relend-prefix-list-by-op c = search needs
 
-slice-aggregate-listed : tie.Need-slice-aggregate-listed
-slice-aggregate-listed c = sym (length-take-le _ _ (omega arith))
+slice-aggregate-list-by-op : tie.Need-slice-aggregate-list-by-op
+slice-aggregate-list-by-op c = sym (length-take-le _ _ (omega arith))
 
-listed-requires : tie.Need-listed-requires
-listed-requires c κs = search needs
+list-by-op-requires : tie.Need-list-by-op-requires
+list-by-op-requires c κs = search needs
 
 same-length : tie.Need-same-length
 same-length c = search needs
@@ -41,9 +41,9 @@ listing-spec =
     cast-lent
     no-case-requires
     returns
-    slice-relend-prefix-listed
-    slice-aggregate-listed
-    listed-requires
+    slice-relend-prefix-list-by-op
+    slice-aggregate-list-by-op
+    list-by-op-requires
     same-length
     same-length-2
     returns-2)
