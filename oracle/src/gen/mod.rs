@@ -81,6 +81,7 @@ pub const STREAMS: &[Stream] = &[
     of_mm("E-database", "E", database::events),
     of_mm("E-mutated", "E", database::events_mutated),
     plain("S-exhaustive", "S", stepping::exhaustive),
+    plain("S-starts", "S", stepping::starts),
     plain("S-random", "S", stepping::random),
     plain("S-walks", "S", stepping::walks),
     plain("S-limits", "S", limits::steps),

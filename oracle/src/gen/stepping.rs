@@ -2,7 +2,7 @@
 use super::comments;
 use super::random::Rng;
 use super::sink::Sink;
-use super::texts::{each_sequence, mutated};
+use super::texts::{each_sequence, mutated, ALPHABETS};
 use super::Plan;
 use crate::cases::Case;
 use crate::states::State;
@@ -70,6 +70,18 @@ pub fn exhaustive(plan: &Plan, sink: &mut Sink) {
             sink.put(&steps([end, pos, 0, 0, 0, 0, 0, 0, u32::MAX, 0], text, 0));
         }
     }
+}
+
+/// Every text of up to five marks, from a fresh state at every start: one step, and all steps.
+pub fn starts(_plan: &Plan, sink: &mut Sink) {
+    each_sequence(ALPHABETS[0].pieces, 5, &mut |text| {
+        let length = text.len() as u32;
+        for start in 0..=length {
+            let fresh = [length, start, 0, 0, 0, 0, 0, 0, u32::MAX, 0];
+            sink.put(&steps(fresh, text, 1));
+            sink.put(&steps(fresh, text, 100));
+        }
+    });
 }
 
 /// Comments in states by chance.
