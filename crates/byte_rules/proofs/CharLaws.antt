@@ -1,15 +1,13 @@
 -- The character at a place, as the code finds it: past the end there is none, and at `i` it is the front of the text from i on.
 -- Assumes nothing.
-use Prim.Native.Nat.{ℕ, zero, suc, _+_, _-_, _≤_, _<_}
-use mathlib.Core.Path.{_≡_, refl, ap, sym, _∙_}
-use mathlib.Core.Bool.{true, false}
+use Prim.Native.Nat.{ℕ, zero, suc, _≤_, _<_}
+use mathlib.Core.Path.{_≡_, refl}
 use mathlib.Core.List.{List, [], _∷_}
 use native.Mathlib.Nat.{add-zero}
 use native.Mathlib.Omega.{arith}
 use lib.ListN.{length, drop, getD, List·getD-eq-default}
 use lib.Seq.{getD-drop}
-use borrow.Author.Tests.{lt-leb}
-use Rattle.byte_rules.specs.Utf8.{byteOr, within, isTail, isOne, isTwo, isThree, isFour, charLen}
+use Rattle.byte_rules.specs.Utf8.{byteOr, within, isOne, isTwo, isThree, isFour, charLen}
 
 -- a byte that stands in the text
 pub byte-in : (s : List ℕ) (i : ℕ) → i < length s → getD s i 0 ≡ byteOr s i

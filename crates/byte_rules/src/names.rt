@@ -26,7 +26,7 @@ pub fn is_valid_label(label: &[u8]) -> bool
 }
 
 // The capital of a small letter, and any other byte.
-fn upper(c: u8) -> u8
+pub fn upper(c: u8) -> u8
     ensures { λ r. ⌜ r ≡ upper c ⌝ }
 {
     if is_small(c) { c - 32 } else { c }

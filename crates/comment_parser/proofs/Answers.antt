@@ -1,14 +1,14 @@
 -- Each answer of `next` is told by its number and values: two outcomes that its contract permits coincide. And what the parser's own unescape calls
 -- refuse beyond what the plain ones do.
 -- Assumes nothing.
-use Prim.Native.Nat.{ℕ, _≤_}
-use mathlib.Core.Path.{_≡_, refl, ap, sym, _∙_}
+use Prim.Native.Nat.{ℕ}
+use mathlib.Core.Path.{_≡_, refl, ap, _∙_}
 use mathlib.Core.Bool.{Bool, true, false, cond, _||_}
 use mathlib.Core.Option.{Option, none, some}
 use native.Mathlib.Omega.{arith}
 use lib.Dec.{ltb, eqb}
 use borrow.Author.Tests.{ltb-false}
-use Rattle.records.specs.Answer.{Answer, refusalAnswer, longest, tooLong, badSpan, badState, spanRefusal}
+use Rattle.records.specs.Answer.{Answer, longest, tooLong, badSpan, spanRefusal}
 use Rattle.records.specs.declared.Refusal.{Refusal}
 use Rattle.records.specs.declared.Refusal.the-variants.{TooLong, BadSpan, BadState, BadTable, NoDate, BadMonth}
 use Rattle.records.proofs.Answers.{coincide, refusalBack, refusal-back, span-good}

@@ -1,17 +1,17 @@
 -- The list of events, an event at a time, in any reading; and that an accepted state leads to accepted states alone.
 -- Assumes nothing.
-use Prim.Native.Nat.{ℕ, _≤_, _<_}
-use mathlib.Core.Path.{_≡_, refl, ap, sym, _∙_}
+use Prim.Native.Nat.{ℕ, _≤_}
+use mathlib.Core.Path.{_≡_, refl, sym, _∙_}
 use mathlib.Core.List.{List, [], _∷_}
 use mathlib.Core.Option.{Option, none, some}
 use native.Mathlib.Omega.{arith}
 use lib.ListN.{length}
-use Rattle.records.specs.Answer.{Answer, bare, stateRefusal, longest}
-use Rattle.records.specs.Produced.{grow, produced}
+use Rattle.records.specs.Answer.{Answer, stateRefusal, longest}
+use Rattle.records.specs.Produced.{grow}
 use Rattle.records.proofs.Answers.{state-accepted, state-good}
 use Rattle.records.proofs.ProducedLaws.{produced-step}
 use Rattle.byte_rules.specs.Reading.{Reading}
-use Rattle.comment_parser.specs.Next.{Step, stepAnswer, answered, nextOf}
+use Rattle.comment_parser.specs.Next.{stepAnswer, answered, nextOf}
 use Rattle.comment_parser.specs.Events.{left, paired, seen, eventsFrom}
 use Rattle.comment_parser.specs.declared.ParserState.{ParserState}
 use Rattle.comment_parser.specs.declared.CommentItem.{CommentItem}

@@ -16,10 +16,8 @@ use Rattle.look.specs.Look.{byteAt, blankAt, doubledAt, wordAt}
 use Rattle.scans.specs.Scan.{scan}
 use Rattle.scans.specs.Marks.{tick, tilde, lbracket, under, less, lf, space, openHtml, closeHtml}
 use Rattle.scans.specs.Ends.{tagEnd, subscriptEnd, italicEnd}
-use Rattle.scans.specs.declared.Place.{Place}
-use Rattle.scans.specs.declared.Place.the-variants.{At, Nowhere}
 use Rattle.scans.proofs.Laws.{scan-ge}
-use Rattle.comment_parser.specs.Item.{span, placedOf, Within}
+use Rattle.comment_parser.specs.Item.{placedOf, Within}
 use Rattle.comment_parser.specs.State.{moved}
 use Rattle.comment_parser.specs.Rules.{opensAhead, afterLf, beforeOpen, tickRule, tildeRule, mathRule, htmlRule, bracketRule, newlineRule, opensItalic, openUnder, underRule, plainRule, textRule, firstRule, stepTo, passAct}
 use Rattle.comment_parser.specs.Pass.{runTo, atEnd, passStep, endedAt, pass, runStart, runItem}
@@ -28,7 +26,6 @@ use Rattle.comment_parser.specs.Events.{seen}
 use Rattle.comment_parser.specs.declared.Act.{Act}
 use Rattle.comment_parser.specs.declared.Act.the-variants.{One, Two, Ends, NoMore}
 use Rattle.comment_parser.specs.declared.CommentItem.{CommentItem}
-use Rattle.comment_parser.specs.declared.CommentItem.the-variants.{Text, MathToken}
 use Rattle.comment_parser.specs.declared.Next.{Next}
 use Rattle.comment_parser.specs.declared.Next.the-variants.{Event, End, Refused}
 use Rattle.comment_parser.specs.declared.ParserState.{ParserState}
@@ -36,9 +33,9 @@ use Rattle.comment_parser.specs.declared.Run.{Run}
 use Rattle.comment_parser.specs.declared.Waiting.{Waiting}
 use Rattle.comment_parser.specs.declared.Waiting.the-variants.{Item, Nothing}
 use Rattle.comment_parser.proofs.Laws.{run-start-le}
-use Rattle.comment_parser.proofs.Progress.{Waits, After, pass-after}
+use Rattle.comment_parser.proofs.Progress.{Waits, After, test, place, pass-after, run-start-ge}
 use Rattle.comment_parser.proofs.Events.{Accepted, seen-accepted, seen-answered}
-use Rattle.comment_parser.proofs.Reached.{Reached}
+use Rattle.comment_parser.proofs.Reached.{Reached, from-zero, run-in-order}
 
 -- ---- a run ends no earlier than it starts
 
@@ -49,13 +46,8 @@ Kept from One = Unit
 Kept from Two = Unit
 Kept from NoMore = Unit
 
-test : (P : Act → Type 0) (b : Bool) (x y : Act) → P x → P y → P (elim b [ true ↦ x | false ↦ y ])
-test P true x y f g = f
-test P false x y f g = g
-
-place : (P : Act → Type 0) (b : Place) (x : ℕ → Act) (y : Act) → ((q : ℕ) → P (x q)) → P y → P (elim b [ At q ↦ x q | Nowhere ↦ y ])
-place P (At q) x y f g = f q
-place P Nowhere x y f g = g
+kept : (from : ℕ) (b : Bool) (x y : Act) → Kept from x → Kept from y → Kept from (elim b [ true ↦ x | false ↦ y ])
+kept from b x y f g = test (Kept from) b x y (λ _. f) (λ _. g)
 
 before-open-ge : (s : List ℕ) (from p : ℕ) → from ≤ p → from ≤ beforeOpen s from p
 unfolding beforeOpen
@@ -70,31 +62,31 @@ before-open-ge s from p h = go (leb (from + 2) p) (byteAt s (p - 1) space) (open
 module _ (s : List ℕ) (st : ParserState) (from p : ℕ) (h : from ≤ p) where
   tick-kept : Kept from (tickRule s st from p)
   unfolding tickRule
-  tick-kept = test (Kept from) (doubledAt s p tick) _ _ tt (test (Kept from) (st .math) _ _ h (before-open-ge s from p h))
+  tick-kept = kept from (doubledAt s p tick) _ _ tt (kept from (st .math) _ _ h (before-open-ge s from p h))
 
   tilde-kept : Kept from (tildeRule s st from p)
   unfolding tildeRule
-  tilde-kept = test (Kept from) (doubledAt s p tilde) _ _ tt (before-open-ge s from p h)
+  tilde-kept = kept from (doubledAt s p tilde) _ _ tt (before-open-ge s from p h)
 
   math-kept : Kept from (mathRule s st from p)
   unfolding mathRule
-  math-kept = test (Kept from) (blankAt s p) _ _ (test (Kept from) (ltb from p) _ _ h tt) tt
+  math-kept = kept from (blankAt s p) _ _ (kept from (ltb from p) _ _ h tt) tt
 
   html-kept : Kept from (htmlRule s st p)
   unfolding htmlRule
-  html-kept = test (Kept from) (st .html) _ _ (test (Kept from) (wordAt s p closeHtml) _ _ h tt) (test (Kept from) (wordAt s p openHtml) _ _ h tt)
+  html-kept = kept from (st .html) _ _ (kept from (wordAt s p closeHtml) _ _ h tt) (kept from (wordAt s p openHtml) _ _ h tt)
 
   bracket-kept : Kept from (bracketRule s st p)
   unfolding bracketRule
-  bracket-kept = test (Kept from) (doubledAt s p lbracket) _ _ tt (place (Kept from) (tagEnd s (p + 1)) _ _ (λ q. h) tt)
+  bracket-kept = kept from (doubledAt s p lbracket) _ _ tt (place (Kept from) (tagEnd s (p + 1)) _ _ (λ q _. h) tt)
 
   newline-kept : Kept from (newlineRule s st from p)
   unfolding newlineRule
-  newline-kept = test (Kept from) (afterLf s (p - from) p) _ _ h tt
+  newline-kept = kept from (afterLf s (p - from) p) _ _ h tt
 
   step-kept : (q : ℕ) (a : Act) → p ≤ q → Kept from a → Kept from (stepTo st q a)
   unfolding stepTo
-  step-kept q a k x = test (Kept from) (eqb q (st .«end_subscript»)) _ _ (omega arith) x
+  step-kept q a k x = kept from (eqb q (st .«end_subscript»)) _ _ (omega arith) x
 
   stepped : (a : Act) → Kept from a → Kept from (elim a [ One ↦ stepTo st (p + 1) One | Two ↦ stepTo st (p + 2) Two | Ends q t ↦ Ends q t | NoMore ↦ NoMore ])
   stepped One x = step-kept (p + 1) One (omega arith) x
@@ -106,22 +98,22 @@ module _ (s : List ℕ) (st : ParserState) (from p : ℕ) (h : from ≤ p) where
     under-kept : Kept from (underRule rd s st p)
     unfolding underRule openUnder
     under-kept =
-        test (Kept from) (doubledAt s p under) _ _ tt
-        (test (Kept from) (eqb p (st .«end_italic»)) _ _ h
-        (test (Kept from) (opensItalic s st p) _ _ (place (Kept from) (italicEnd rd s (p + 1)) _ _ (λ q. h) tt) (place (Kept from) (subscriptEnd rd s (p + 1)) _ _ (λ q. h) tt)))
+        kept from (doubledAt s p under) _ _ tt
+        (kept from (eqb p (st .«end_italic»)) _ _ h
+        (kept from (opensItalic s st p) _ _ (place (Kept from) (italicEnd rd s (p + 1)) _ _ (λ q _. h) tt) (place (Kept from) (subscriptEnd rd s (p + 1)) _ _ (λ q _. h) tt)))
 
     text-kept : Kept from (textRule rd s st from p)
     unfolding textRule plainRule
     text-kept =
-        test (Kept from) (byteAt s p less) _ _ html-kept
-        (test (Kept from) (byteAt s p tilde) _ _ tilde-kept
-        (test (Kept from) (byteAt s p lbracket) _ _ bracket-kept
-        (test (Kept from) (st .html) _ _ tt
-        (test (Kept from) (byteAt s p lf) _ _ newline-kept (test (Kept from) (byteAt s p under) _ _ under-kept tt)))))
+        kept from (byteAt s p less) _ _ html-kept
+        (kept from (byteAt s p tilde) _ _ tilde-kept
+        (kept from (byteAt s p lbracket) _ _ bracket-kept
+        (kept from (st .html) _ _ tt
+        (kept from (byteAt s p lf) _ _ newline-kept (kept from (byteAt s p under) _ _ under-kept tt)))))
 
     act-kept : Kept from (passAct rd s st from p)
     unfolding passAct firstRule
-    act-kept = stepped (firstRule rd s st from p) (test (Kept from) (byteAt s p tick) _ _ tick-kept (test (Kept from) (st .math) _ _ math-kept text-kept))
+    act-kept = stepped (firstRule rd s st from p) (kept from (byteAt s p tick) _ _ tick-kept (kept from (st .math) _ _ math-kept text-kept))
 
 -- a run from `from` that ends no earlier
 abbrev RunKept : ℕ → Run → Type 0
@@ -165,22 +157,6 @@ given-ge : (low high : ℕ) (w : Waiting) → low ≤ high → Waits low high w 
 given-ge low high (Item i) h k = k .above
 given-ge low high Nothing h k = h
 
-start-cases : (b : Bool) (x y k : ℕ) → k ≤ x → k ≤ y → k ≤ elim b [ true ↦ x | false ↦ y ]
-start-cases true x y k p q = p
-start-cases false x y k p q = q
-
-run-start-ge : (s : List ℕ) (st : ParserState) → st .pos ≤ length s → st .pos ≤ runStart s st
-unfolding runStart
-run-start-ge s st h = start-cases (st .math) _ _ _ (scan-ge _ _ _ _ (le-refl (st .pos)) h) (le-refl (st .pos))
-
-run-in-order : (st : ParserState) (low a b high : ℕ) → low ≤ a → a ≤ b → b ≤ high → Within low high (placedOf (runItem st a b))
-unfolding runItem
-run-in-order st low a b high h k l = go (st .math)
-  where
-    go : (m : Bool) → Within low high (placedOf (elim m [ true ↦ MathToken (span a b) | false ↦ Text (span a b) ]))
-    go true = record { above = h; placed = omega arith; ordered = k; below = l }
-    go false = record { above = h; placed = omega arith; ordered = k; below = l }
-
 give-in-order : (u : ParserState) (low : ℕ) → low ≤ given u → Waits 0 (u .pos) (u .waiting) → InOrder low (give u)
 unfolding give
 give-in-order u low = go (u .waiting)
@@ -188,10 +164,6 @@ give-in-order u low = go (u .waiting)
     go : (w : Waiting) → low ≤ givenTo (u .pos) w → Waits 0 (u .pos) w → InOrder low (elim w [ Item i ↦ Event i (moved u (u .pos) Nothing) | Nothing ↦ End u ])
     go (Item i) h k = record { above = h; placed = k .placed; ordered = k .ordered; below = k .below }
     go Nothing h k = tt
-
-from-zero : (low high : ℕ) (w : Waiting) → Waits low high w → Waits 0 high w
-from-zero low high (Item i) h = record { above = omega arith; placed = h .placed; ordered = h .ordered; below = h .below }
-from-zero low high Nothing h = tt
 
 -- a run, and what ended it
 run-given : (s : List ℕ) (st : ParserState) (low from q : ℕ) (t : ParserState) → low ≤ from → from ≤ q → After s st from q t

@@ -12,8 +12,6 @@ use Rattle.look.specs.Look.{byteAt, blankAt}
 use Rattle.scans.specs.Marks.{lf}
 use Rattle.scans.specs.Plain.{markAt, plainStep, plainEnd}
 use Rattle.scans.specs.Scan.{scan}
-use Rattle.scans.specs.declared.Step.{Step}
-use Rattle.scans.specs.declared.Step.the-variants.{One as StepOne, Two as StepTwo, Stop}
 use Rattle.scans.proofs.Laws.{by-less, scan-over, scan-le, scan-end}
 use Rattle.scans.proofs.PlainLaws.{mark-free, plain-passed}
 use Rattle.comment_parser.specs.State.{moved}
@@ -23,7 +21,7 @@ use Rattle.comment_parser.specs.Notes.{Skipped}
 use Rattle.comment_parser.specs.declared.ParserState.{ParserState}
 use Rattle.comment_parser.specs.declared.Waiting.the-variants.{Nothing}
 use Rattle.comment_parser.specs.declared.Act.{Act}
-use Rattle.comment_parser.specs.declared.Act.the-variants.{One, Two, Ends, NoMore}
+use Rattle.comment_parser.specs.declared.Act.the-variants.{One, Ends, NoMore}
 
 -- looking back for an LF: nothing before the run's start, and one byte further
 pub lf-none : (s : List ℕ) (from : ℕ) → afterLf s (from - from) from ≡ false

@@ -1,11 +1,11 @@
 -- Each event brings the parser on, in any reading: the state after it is one that `next` takes, and has less to come.
 -- Assumes nothing.
-use Prim.Native.Nat.{ℕ, zero, suc, _+_, _-_, _*_, _≤_, _<_}
-use mathlib.Core.Bool.{Bool, true, false, _&&_, _||_}
-use mathlib.Core.Path.{_≡_, refl, ap, sym, _∙_}
+use Prim.Native.Nat.{ℕ, zero, suc, _+_, _-_, _≤_, _<_}
+use mathlib.Core.Bool.{Bool, true, false, _&&_}
+use mathlib.Core.Path.{_≡_, refl}
 use mathlib.Core.Logic.{_⊎_, inl, inr, ⊎-elim}
 use mathlib.Core.List.{List}
-use borrow.Author.Tests.{ltb-true, leb-true}
+use borrow.Author.Tests.{ltb-true}
 use native.Mathlib.Nat.{le-refl}
 use native.Mathlib.Omega.{arith}
 use lib.ListN.{length, take, drop}
@@ -26,14 +26,14 @@ use Rattle.comment_parser.proofs.Laws.{run-start-le}
 use Rattle.comment_parser.specs.Item.{span, placedOf, Within}
 use Rattle.comment_parser.specs.State.{moved}
 use Rattle.comment_parser.specs.Rules.{opensAhead, afterLf, beforeOpen, afterClose, labelItem, tickRule, tildeRule, mathRule, htmlRule, bracketRule, newlineRule, opensItalic, openUnder, underRule, plainRule, textRule, firstRule, stepTo, passAct}
-use Rattle.comment_parser.specs.Pass.{runTo, atEnd, passStep, endedAt, pass, runStart, runItem}
-use Rattle.comment_parser.specs.Next.{Step, stepAnswer, give, readOn, answered, nextOf}
-use Rattle.comment_parser.specs.Events.{waits, left, paired, seen}
+use Rattle.comment_parser.specs.Pass.{runTo, atEnd, passStep, endedAt, pass, runStart}
+use Rattle.comment_parser.specs.Next.{give, readOn, answered}
+use Rattle.comment_parser.specs.Events.{waits, left}
 use Rattle.comment_parser.specs.declared.ParserState.{ParserState}
 use Rattle.comment_parser.specs.declared.CommentItem.{CommentItem}
 use Rattle.comment_parser.specs.declared.CommentItem.the-variants.{Label, Url}
 use Rattle.comment_parser.specs.declared.Next.{Next}
-use Rattle.comment_parser.specs.declared.Next.the-variants.{Event, End, Refused}
+use Rattle.comment_parser.specs.declared.Next.the-variants.{Event, End}
 use Rattle.comment_parser.specs.declared.Waiting.{Waiting}
 use Rattle.comment_parser.specs.declared.Waiting.the-variants.{Item, Nothing}
 use Rattle.comment_parser.specs.declared.Run.{Run}
@@ -61,11 +61,11 @@ Sound s st from p (Ends q t) = After s st from q t
 Sound s st from p NoMore = Unit
 
 -- by the cases of a test
-test : (P : Act → Type 0) (b : Bool) (x y : Act) → (b ≡ true → P x) → (b ≡ false → P y) → P (elim b [ true ↦ x | false ↦ y ])
+pub test : (P : Act → Type 0) (b : Bool) (x y : Act) → (b ≡ true → P x) → (b ≡ false → P y) → P (elim b [ true ↦ x | false ↦ y ])
 test P true x y f g = f refl
 test P false x y f g = g refl
 
-place : (P : Act → Type 0) (b : Place) (x : ℕ → Act) (y : Act) → ((q : ℕ) → b ≡ At q → P (x q)) → P y → P (elim b [ At q ↦ x q | Nowhere ↦ y ])
+pub place : (P : Act → Type 0) (b : Place) (x : ℕ → Act) (y : Act) → ((q : ℕ) → b ≡ At q → P (x q)) → P y → P (elim b [ At q ↦ x q | Nowhere ↦ y ])
 place P (At q) x y f g = f q refl
 place P Nowhere x y f g = g
 
@@ -278,7 +278,7 @@ start-cases : (b : Bool) (x y k : ℕ) → k ≤ x → k ≤ y → k ≤ elim b 
 start-cases true x y k p q = p
 start-cases false x y k p q = q
 
-run-start-ge : (s : List ℕ) (st : ParserState) → st .pos ≤ length s → st .pos ≤ runStart s st
+pub run-start-ge : (s : List ℕ) (st : ParserState) → st .pos ≤ length s → st .pos ≤ runStart s st
 unfolding runStart
 run-start-ge s st h = start-cases (st .math) _ _ _ (scan-ge _ _ _ _ (le-refl (st .pos)) h) (le-refl (st .pos))
 

@@ -41,17 +41,18 @@ LiesIf (Event i t) = Lies i t
 LiesIf (End t) = Unit
 LiesIf (Refused r t) = Unit
 
-from-zero : (low high : ℕ) (w : Waiting) → Waits low high w → Waits 0 high w
+pub from-zero : (low high : ℕ) (w : Waiting) → Waits low high w → Waits 0 high w
 from-zero low high (Item i) h = record { above = omega arith; placed = h .placed; ordered = h .ordered; below = h .below }
 from-zero low high Nothing h = tt
 
-run-within : (st : ParserState) (a b high : ℕ) → a ≤ b → b ≤ high → Within 0 high (placedOf (runItem st a b))
+-- a run lies where its bytes do
+pub run-in-order : (st : ParserState) (low a b high : ℕ) → low ≤ a → a ≤ b → b ≤ high → Within low high (placedOf (runItem st a b))
 unfolding runItem
-run-within st a b high h k = go (st .math)
+run-in-order st low a b high h k l = go (st .math)
   where
-    go : (m : Bool) → Within 0 high (placedOf (elim m [ true ↦ MathToken (span a b) | false ↦ Text (span a b) ]))
-    go true = record { above = omega arith; placed = omega arith; ordered = h; below = k }
-    go false = record { above = omega arith; placed = omega arith; ordered = h; below = k }
+    go : (m : Bool) → Within low high (placedOf (elim m [ true ↦ MathToken (span a b) | false ↦ Text (span a b) ]))
+    go true = record { above = h; placed = omega arith; ordered = k; below = l }
+    go false = record { above = h; placed = omega arith; ordered = k; below = l }
 
 give-lies : (u : ParserState) → Reached u → LiesIf (give u)
 unfolding give
@@ -66,7 +67,7 @@ run-lies : (s : List ℕ) (st : ParserState) (from q : ℕ) (t : ParserState) �
 run-lies s st from q t a = go (ltb from q) refl
   where
     go : (b : Bool) → ltb from q ≡ b → LiesIf (elim b [ true ↦ Event (runItem st from q) t | false ↦ give t ])
-    go true e = record { within = run-within st from q (t .pos) (omega (arith, ltb-true from q e)) (a .past-run); reached = from-zero q (t .pos) (t .waiting) (a .waits) }
+    go true e = record { within = run-in-order st 0 from q (t .pos) (omega arith) (omega (arith, ltb-true from q e)) (a .past-run); reached = from-zero q (t .pos) (t .waiting) (a .waits) }
     go false e = give-lies t (from-zero q (t .pos) (t .waiting) (a .waits))
 
 module _ (rd : Reading) where

@@ -5,7 +5,7 @@ use mathlib.Core.Option.{Option, none, some}
 use Rattle.records.specs.Produced.{produced}
 use Rattle.byte_rules.specs.Reading.{Reading}
 use Rattle.comment_parser.specs.State.{fresh}
-use Rattle.comment_parser.specs.Next.{Step, nextOf}
+use Rattle.comment_parser.specs.Next.{nextOf}
 use Rattle.comment_parser.specs.declared.CommentItem.{CommentItem}
 use Rattle.comment_parser.specs.declared.Waiting.{Waiting}
 use Rattle.comment_parser.specs.declared.Waiting.the-variants.{Item, Nothing}

@@ -8,23 +8,22 @@ use mathlib.Core.Option.{Option, none, some}
 use native.Mathlib.Omega.{arith}
 use lib.ListN.{length, take, length-drop}
 use Rattle.byte_rules.specs.Reading.{rust}
-use Rattle.records.specs.Answer.{longest}
 use Rattle.records.specs.Records.{laid, used, wroteOf}
 use Rattle.records.specs.declared.Wrote.{Wrote}
 use Rattle.records.proofs.Laws.{Wide, laid-long}
 use Rattle.records.proofs.Laying.{Laying, tail, back, tail-is, back-is, laying-starts, laying-goes, all-counted, all-laid}
 use Rattle.comment_parser.specs.State.{fresh}
-use Rattle.comment_parser.specs.Item.{placedOf, Within}
+use Rattle.comment_parser.specs.Item.{placedOf}
 use Rattle.comment_parser.specs.Next as parser
 use Rattle.comment_parser.specs.Next.{nextOf}
-use Rattle.comment_parser.specs.Events.{left, paired, seen, eventsFrom, eventsOf}
+use Rattle.comment_parser.specs.Events.{left, paired, seen, eventsOf}
 use Rattle.comment_parser.specs.declared.Placed.{Placed}
 use Rattle.comment_parser.specs.declared.CommentItem.{CommentItem}
 use Rattle.comment_parser.specs.declared.ParserState.{ParserState}
 use Rattle.comment_parser.proofs.Events.{seen-accepted, seen-on, events-on, events-end}
 use Rattle.comment_view.specs.View.{gives}
 use Rattle.events.specs.Events.{eventWidth, placedWords, eventRecord, recordsFrom, eventRecords}
-use Rattle.comment_view.specs.Listed.{stepRecords, Ready, ReadyFor, Lays}
+use Rattle.comment_view.specs.Listed.{stepRecords, ReadyFor, Lays}
 use Rattle.comment_view.specs.declared.Step.{Step}
 use Rattle.comment_view.specs.declared.Step.the-variants.{Event, End, Refused}
 use Rattle.comment_view.specs.declared.listed.Listing.{Listing}

@@ -9,7 +9,7 @@ use native.Mathlib.Nat.{eq-or-lt-of-le}
 use lib.Dec.{eqb}
 use borrow.Author.Tests.{eqb-true}
 use Rattle.byte_rules.proofs.Laws.{both}
-use Rattle.date.specs.Months.{names, letterOf, isName, monthIn, monthOf}
+use Rattle.date.specs.Months.{names, letterOf, isMonthName, monthIn, monthOf}
 use Rattle.date.specs.declared.reading.Number.{Number}
 use Rattle.date.specs.declared.reading.Number.the-variants.{Is, No}
 
@@ -18,11 +18,11 @@ months-left : (m : ℕ) → m ≤ 12 → 13 - m ≡ suc (13 - (m + 1))
 months-left m h = omega arith
 
 module _ (m a b c : ℕ) where
-  pub month-found : m ≤ 12 → isName m a b c ≡ true → monthIn (13 - m) m a b c ≡ Is m
+  pub month-found : m ≤ 12 → isMonthName m a b c ≡ true → monthIn (13 - m) m a b c ≡ Is m
   unfolding monthIn
   month-found h e = rw (months-left m h, e)
 
-  pub month-next : m ≤ 12 → isName m a b c ≡ false → monthIn (13 - m) m a b c ≡ monthIn (13 - (m + 1)) (m + 1) a b c
+  pub month-next : m ≤ 12 → isMonthName m a b c ≡ false → monthIn (13 - m) m a b c ≡ monthIn (13 - (m + 1)) (m + 1) a b c
   unfolding monthIn
   month-next h e = rw (months-left m h, e)
 
@@ -34,9 +34,9 @@ module _ (m a b c : ℕ) where
 in-most : (k m a b c r : ℕ) → monthIn k m a b c ≡ Is r → r < m + k
 unfolding monthIn
 in-most zero m a b c r e = let z : _≡_ {A = ℕ} 0 1 = cc in absurd (omega arith)
-in-most (suc k) m a b c r e = go (isName m a b c) refl (in-most k (m + 1) a b c r)
+in-most (suc k) m a b c r e = go (isMonthName m a b c) refl (in-most k (m + 1) a b c r)
   where
-    go : (t : Bool) → isName m a b c ≡ t → (monthIn k (m + 1) a b c ≡ Is r → r < m + 1 + k) → r < m + suc k
+    go : (t : Bool) → isMonthName m a b c ≡ t → (monthIn k (m + 1) a b c ≡ Is r → r < m + 1 + k) → r < m + suc k
     go true t ih = let f : Is m ≡ Is r = rw t at e in let same : m ≡ r = cc in omega arith
     go false t ih = omega (arith, ih (rw t at e))
 
@@ -75,7 +75,7 @@ isNext : ℕ → Bool
 isNext k = isOwn (k + 1)
 
 pub month-back : (m : ℕ) → 1 ≤ m → m ≤ 12 → monthOf (letterOf m 0) (letterOf m 1) (letterOf m 2) ≡ Is m
-unfolding isOwn isNext below isNumber monthOf monthIn isName letterOf names
+unfolding isOwn isNext below isNumber monthOf monthIn isMonthName letterOf names
 month-back m low high =
     let same : m - 1 + 1 ≡ m = omega arith in
     is-number m _ (ap isOwn (sym same) ∙ each isNext 12 (m - 1) refl (omega arith))

@@ -17,13 +17,13 @@ unfoldable pub letterOf : ℕ → ℕ → ℕ
 letterOf m i = getD names ((m - 1) * 3 + i) 0
 
 -- the name of month m is a, b, c
-unfoldable pub isName : ℕ → ℕ → ℕ → ℕ → Bool
-isName m a b c = eqb (letterOf m 0) a && eqb (letterOf m 1) b && eqb (letterOf m 2) c
+unfoldable pub isMonthName : ℕ → ℕ → ℕ → ℕ → Bool
+isMonthName m a b c = eqb (letterOf m 0) a && eqb (letterOf m 1) b && eqb (letterOf m 2) c
 
 -- the first of the k months from m on whose name is a, b, c
 unfoldable pub monthIn : ℕ → ℕ → ℕ → ℕ → ℕ → Number
 monthIn zero m a b c = No
-monthIn (suc k) m a b c = cond (isName m a b c) (Is m) (monthIn k (m + 1) a b c)
+monthIn (suc k) m a b c = cond (isMonthName m a b c) (Is m) (monthIn k (m + 1) a b c)
 
 -- the month that a, b, c name
 unfoldable pub monthOf : ℕ → ℕ → ℕ → Number

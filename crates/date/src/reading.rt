@@ -7,7 +7,7 @@ ghost use mathlib.Core.Path.{_≡_};
 ghost use Prim.Native.Nat.{_+_, _≤_};
 ghost use lib.ListN.{length};
 ghost use Rattle.date.specs.Numbers.{Below, digits, number};
-ghost use Rattle.date.specs.Months.{isName, monthOf};
+ghost use Rattle.date.specs.Months.{isMonthName, monthOf};
 ghost use Rattle.date.specs.Reading.{dateOf, fields, dateAnswer, readAnswer};
 
 // What some bytes are, read as a number.
@@ -53,9 +53,9 @@ fn read_number(field: &[u8]) -> Number
 }
 
 // Whether the name of month m is a, b, c.
-fn is_name(m: usize, a: u8, b: u8, c: u8) -> bool
+fn is_month_name(m: usize, a: u8, b: u8, c: u8) -> bool
     requires { ⌜ (1 ≤ m) × (m ≤ 12) ⌝ }
-    ensures { λ r. ⌜ r ≡ isName m a b c ⌝ }
+    ensures { λ r. ⌜ r ≡ isMonthName m a b c ⌝ }
 {
     (letter(m, 0) == a) & (letter(m, 1) == b) & (letter(m, 2) == c)
 }
@@ -66,7 +66,7 @@ fn month_of(a: u8, b: u8, c: u8) -> Number
 {
     let mut m: usize = 1;
     while m <= 12 {
-        if is_name(m, a, b, c) {
+        if is_month_name(m, a, b, c) {
             return Number::Is(m as u16);
         }
         m += 1;

@@ -1,13 +1,12 @@
 -- Two writers, one after the other: the second is lent the tail behind what the first wrote, and together they laid both lists.
 -- Assumes nothing.
-use Prim.Native.Nat.{ℕ, _+_, _≤_}
+use Prim.Native.Nat.{ℕ, _+_}
 use mathlib.Core.Path.{_≡_, sym, ap, _∙_}
 use mathlib.Core.List.{List, _++_}
-use native.Mathlib.Omega.{arith}
-use lib.ListN.{length, take, drop, length-append, length-drop}
+use lib.ListN.{length, drop, length-append}
 use Rattle.records.specs.Records.{laid, used, wroteOf}
 use Rattle.records.specs.declared.Wrote.{Wrote}
-use Rattle.records.proofs.Laws.{Wide, laid-append, laid-long}
+use Rattle.records.proofs.Laws.{Wide, laid-append}
 use Rattle.records.proofs.Laying.{tail, back, tail-is, back-is}
 
 -- what both did
@@ -33,7 +32,3 @@ module _ (k : ℕ) (ws vs : List (List ℕ)) (room mid last : List ℕ) (wide : 
   both-laid =
       let split = laid-append k ws vs room wide in
       back-is (a .words) mid last ∙ rw (laid-b, rest-is, words-a, laid-a) (sym (split .0))
-
-  -- the second is lent a tail of the room
-  pub both-inside : a .words ≤ length mid
-  both-inside = let long = laid-long k ws room wide in omega (arith, words-a, ap length laid-a)

@@ -10,9 +10,7 @@ use Rattle.look.specs.Look.{byteAt, blankAt}
 use Rattle.look.proofs.Laws.{blank-past}
 use Rattle.scans.specs.Marks.{rbracket}
 use Rattle.scans.specs.Ends.{blanksStep, blanksEnd, tagStop, tagEnd}
-use Rattle.scans.specs.declared.Place.{Place}
 use Rattle.scans.specs.declared.Place.the-variants.{At, Nowhere}
-use Rattle.scans.specs.declared.Step.{Step}
 use Rattle.scans.specs.declared.Step.the-variants.{One, Stop}
 use Rattle.scans.proofs.Laws.{Leads, by-one, stops, scanned, by-less}
 

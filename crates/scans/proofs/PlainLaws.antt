@@ -1,9 +1,9 @@
 -- Plain bytes are stepped over: no mark stands at any place that the scan over them passes.
 -- Assumes nothing.
-use Prim.Native.Nat.{ℕ, zero, suc, _+_, _-_, _≤_, _<_}
-use mathlib.Core.Bool.{Bool, true, false, _&&_, _||_, not}
-use mathlib.Core.Path.{_≡_, refl, ap, _∙_, sym}
-use mathlib.Core.List.{List, _∷_}
+use Prim.Native.Nat.{ℕ, zero, suc, _+_, _≤_, _<_}
+use mathlib.Core.Bool.{Bool, true, false, _||_}
+use mathlib.Core.Path.{_≡_, refl, _∙_, sym}
+use mathlib.Core.List.{List}
 use native.Mathlib.Omega.{arith}
 use lib.Dec.{eqb}
 use lib.ListN.{length, getD}
@@ -69,12 +69,15 @@ module _ (s : List ℕ) (k : ℕ) (h : k < length s) where
   unfolding plainStep
   mark-stop t = rw (plainStep, mark-test ∙ t)
 
+  -- a plain byte is none of the marks
+  pub plain-byte : markAt s k ≡ false → let b = getD s k 0 in Free (eqb b tick) (eqb b less) (eqb b tilde) (eqb b lbracket) (eqb b lf) (eqb b under)
+  unfolding isMark
+  plain-byte n = let b = getD s k 0 in free (eqb b tick) (eqb b less) (eqb b tilde) (eqb b lbracket) (eqb b lf) (eqb b under) (sym mark-test ∙ n)
+
   -- at a plain byte stands none of the marks
   pub mark-free : markAt s k ≡ false → Free (byteAt s k tick) (byteAt s k less) (byteAt s k tilde) (byteAt s k lbracket) (byteAt s k lf) (byteAt s k under)
-  unfolding isMark
   mark-free n =
-      let b = getD s k 0 in
-      let f = free (eqb b tick) (eqb b less) (eqb b tilde) (eqb b lbracket) (eqb b lf) (eqb b under) (sym mark-test ∙ n) in
+      let f = plain-byte n in
       record { not-1 = byte-not tick (f .not-1); not-2 = byte-not less (f .not-2); not-3 = byte-not tilde (f .not-3); not-4 = byte-not lbracket (f .not-4); not-5 = byte-not lf (f .not-5); not-6 = byte-not under (f .not-6) }
 
   -- in a label the rule steps over a byte that is none of its marks

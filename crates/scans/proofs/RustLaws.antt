@@ -2,7 +2,7 @@
 -- Assumes nothing.
 use Prim.Native.Nat.{ℕ}
 use mathlib.Core.Bool.{Bool, true, false, _||_}
-use mathlib.Core.Path.{_≡_, refl, ap, _∙_}
+use mathlib.Core.Path.{_≡_, refl, ap}
 use mathlib.Core.List.{List}
 use Rattle.byte_rules.specs.Reading.{rust, barsNothing}
 use Rattle.look.specs.Look.{holdsAt, byteAt, blankAt, closerAt, doubledAt}

@@ -1,9 +1,9 @@
 -- The search for a tag: a search that failed is not made again. What a note tells, and that the notes that are made hold.
 -- Assumes nothing.
-use Prim.Native.Nat.{ℕ, zero, suc, _+_, _-_, _≤_, _<_}
-use mathlib.Core.Bool.{Bool, true, false, _&&_, _||_, not}
-use mathlib.Core.Path.{_≡_, refl, ap, _∙_, sym}
-use mathlib.Core.List.{List, _∷_}
+use Prim.Native.Nat.{ℕ, _+_, _≤_, _<_}
+use mathlib.Core.Bool.{Bool, true, false, _&&_, not}
+use mathlib.Core.Path.{_≡_, refl, _∙_, sym}
+use mathlib.Core.List.{List}
 use native.Mathlib.Omega.{arith}
 use borrow.Author.Tests.{lt-ltb, ltb-true, leb-true, le-leb}
 use lib.Dec.{ltb, leb, lit<}
@@ -17,7 +17,6 @@ use Rattle.scans.specs.Notes.{covers, Holds, Noted}
 use Rattle.scans.specs.declared.Place.{Place}
 use Rattle.scans.specs.declared.Place.the-variants.{At, Nowhere}
 use Rattle.scans.specs.declared.Note.{Note}
-use Rattle.scans.specs.declared.Step.{Step}
 use Rattle.scans.specs.declared.Step.the-variants.{One, Two, Stop}
 use Rattle.scans.proofs.Laws.{by-less, clash, scan-one, scan-ge, scan-through}
 

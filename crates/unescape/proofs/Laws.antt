@@ -2,6 +2,8 @@
 --     unescaped-step    its first byte, then the rest past the bytes that stand for it, unescaped
 --     unescaped-end     nothing, from the end on
 --     step-some, step-within    a step is at least a byte, and ends inside the text
+--     step-plain        a byte that is no escape is a step of one
+--     step-single       a byte that is not followed by itself is a step of one
 --     step-last         the last byte is a step of one, whatever stands behind the text
 -- Of a whole text:
 --     unescaped-length, unescaped-some    unescaped it is no longer, and not empty unless the text is
@@ -49,8 +51,14 @@ module _ (esc : ℕ → Bool) where
     unfolding stepAt
     step-is t e = rw e
 
+    pub step-plain : esc (getD s i 0) ≡ false → stepAt esc s i ≡ 1
+    step-plain e = step-is false (rw e)
+
+    pub step-single : byteAt s (i + 1) (getD s i 0) ≡ false → stepAt esc s i ≡ 1
+    step-single e = step-is false (rw (e, and-false))
+
     pub step-last : length s ≤ i + 1 → stepAt esc s i ≡ 1
-    step-last h = step-is false (rw (byte-past s (i + 1) (getD s i 0) h, and-false))
+    step-last h = step-single (byte-past s (i + 1) (getD s i 0) h)
 
     pub step-some : 1 ≤ stepAt esc s i
     step-some = go doubled refl

@@ -43,7 +43,7 @@ module _ {text rest out₀ out : List ℕ} {n c : ℕ} (w : Writing text (c ∷ 
 
 -- at the end nothing is to come
 module _ {text out₀ out : List ℕ} {n : ℕ} (w : Writing text [] out₀ out n) where
-  all-written : n ≡ length text
+  pub all-written : n ≡ length text
   all-written = omega (arith, w .inside, ap length (w .to-come), length-drop n text)
 
   pub writing-left : out ≡ text ++ drop (length text) out₀

@@ -6,6 +6,7 @@ use look::byte_at;
 use records::Checked;
 use records::Filled;
 use records::check_span;
+use scans::plain::plain_end;
 ghost use mathlib.Core.Path.{_≡_};
 ghost use mathlib.Core.List.{_++_};
 ghost use Prim.Native.Nat.{_≤_};
@@ -32,7 +33,7 @@ pub fn is_escape(kind: Escape, c: u8) -> bool
     }
 }
 
-// How many bytes stand for the one unescaped byte at i: 2 for a doubled escape byte, else 1.
+// How many bytes stand for the one unescaped byte at i: 2 for a doubled escape byte, else 1. Few bytes are followed by the same one, so that is asked first.
 pub fn unescape_step(kind: Escape, text: &[u8], i: usize) -> usize
     ensures { λ r. ⌜ r ≡ stepAt (isEscape kind) (now (text .entry)) i ⌝ }
 {
@@ -40,41 +41,58 @@ pub fn unescape_step(kind: Escape, text: &[u8], i: usize) -> usize
         return 1;
     }
     let c = text[i];
-    if is_escape(kind, c) {
-        if byte_at(text, i + 1, c) { 2 } else { 1 }
+    if byte_at(text, i + 1, c) {
+        if is_escape(kind, c) { 2 } else { 1 }
     } else {
         1
     }
 }
 
-// How many bytes the text has unescaped.
+// How many bytes the text has unescaped. No escape byte is plain, so plain bytes are counted at once.
 fn unescaped_len(kind: Escape, text: &[u8]) -> usize
     ensures { λ r. ⌜ r ≡ length (unescaped (isEscape kind) (now (text .entry))) ⌝ }
 {
     let mut n = 0;
     let mut i = 0;
     while i < text.len() {
-        i += unescape_step(kind, text, i);
+        let p = plain_end(text, i);
+        n += p - i;
+        if text.len() <= p {
+            return n;
+        }
+        i = p + unescape_step(kind, text, p);
         n += 1;
     }
     n
 }
 
-// Writes the text unescaped at the front of `out`, which has room for it.
-fn put_unescaped(kind: Escape, text: &[u8], out: &mut [u8])
+// Writes the text unescaped at the front of `out`, which has room for it, and answers how many bytes that were. Plain bytes are copied as they stand.
+fn put_unescaped(kind: Escape, text: &[u8], out: &mut [u8]) -> usize
     requires { ⌜ length (unescaped (isEscape kind) (now text)) ≤ length (now out) ⌝ }
-    ensures { λ _. ⌜ now (out .exit) ≡ unescaped (isEscape kind) (now (text .entry)) ++ drop (length (unescaped (isEscape kind) (now (text .entry)))) (now (out .entry)) ⌝ }
+    ensures count { λ r. ⌜ r ≡ length (unescaped (isEscape kind) (now (text .entry))) ⌝ }
+    ensures left { λ r. ⌜ now (out .exit) ≡ unescaped (isEscape kind) (now (text .entry)) ++ drop (length (unescaped (isEscape kind) (now (text .entry)))) (now (out .entry)) ⌝ }
 {
     let mut at = 0;
     let mut from = 0;
     while from < text.len() {
-        out[at] = text[from];
-        from += unescape_step(kind, text, from);
+        let p = plain_end(text, from);
+        while from < p {
+            out[at] = text[from];
+            from += 1;
+            at += 1;
+        }
+        if text.len() <= p {
+            return at;
+        }
+        out[at] = text[p];
+        from = p + unescape_step(kind, text, p);
         at += 1;
     }
+    at
 }
 
 // The span of `buf`, unescaped, at the front of `out`: all of it or nothing. Doubling is looked for inside the span only.
+// A room of the span's length is enough, so only in a smaller one the bytes are counted before they are written.
 pub fn unescape(kind: Escape, buf: &[u8], start: usize, end: usize, out: &mut [u8]) -> Filled
     ensures answer { λ r. ⌜ filledAnswer r
         ≡ textAnswer (spanRefusal (length (now (buf .entry))) start end) (unescaped (isEscape kind) (part (now (buf .entry)) start end)) (length (now (out .entry))) ⌝ }
@@ -85,12 +103,13 @@ pub fn unescape(kind: Escape, buf: &[u8], start: usize, end: usize, out: &mut [u
         return Filled::Refused(why);
     }
     let text = &buf[start..end];
-    let needed = unescaped_len(kind, text);
-    if out.len() < needed {
-        return Filled::Short(needed);
+    if out.len() < text.len() {
+        let needed = unescaped_len(kind, text);
+        if out.len() < needed {
+            return Filled::Short(needed);
+        }
     }
-    put_unescaped(kind, text, out);
-    Filled::Done(needed)
+    Filled::Done(put_unescaped(kind, text, out))
 }
 
 // A Text; `html` says whether it stands in HTML.

@@ -1,6 +1,6 @@
 // The diagnostics of a text's or a label's span: lone escapes, and an HTML mark.
 use crate::laying::lay_if;
-use byte_rules::is_small;
+use byte_rules::names::upper;
 use comment_parser::Span;
 use records::Wrote;
 use unescape::Escape;
@@ -9,7 +9,6 @@ use unescape::unescape_step;
 ghost use mathlib.Core.Path.{_≡_};
 ghost use Prim.Native.Nat.{_-_, _≤_};
 ghost use lib.ListN.{length};
-ghost use Rattle.byte_rules.specs.Names.{upper};
 ghost use Rattle.records.specs.Records.{laid, wroteOf};
 ghost use Rattle.verify_markup.specs.Diag.{diagWidth, InBuf};
 ghost use Rattle.verify_markup.specs.Texts.{isReported, foldedAt, htmlLen, htmlFrom, loneAt, loneFrom, htmlIn, written};
@@ -57,12 +56,6 @@ fn lay_lone(kind: Escape, buf: &[u8], start: usize, end: usize, room: &mut [u32]
         words: at,
         count: n,
     }
-}
-
-fn upper(c: u8) -> u8
-    ensures { λ r. ⌜ r ≡ upper c ⌝ }
-{
-    if is_small(c) { c - 32 } else { c }
 }
 
 // The word, in capitals, stands in any case at i.

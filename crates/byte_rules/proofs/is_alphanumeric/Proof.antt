@@ -2,11 +2,6 @@ use Rattle.byte_rules.specs.Classes.{isAlphanumeric}
 use borrow.Author.Needs.{needs}
 use Rattle.byte_rules.proofs.is_alphanumeric.Statement.{statement}
 use Rattle.byte_rules.proofs.is_alphanumeric.Tie as tie
-use Rattle.byte_rules.proofs.is_alphanumeric.Reads as reads
-use Rattle.byte_rules.proofs.is_alphanumeric.Lts as lts
-use Rattle.byte_rules.proofs.is_capital.Reads as is-capital-reads
-use Rattle.byte_rules.proofs.is_digit.Reads as is-digit-reads
-use Rattle.byte_rules.proofs.is_small.Reads as is-small-reads
 
 is-digit-requires : tie.Need-is-digit-requires
 is-digit-requires c κs = search needs

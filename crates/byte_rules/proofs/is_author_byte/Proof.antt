@@ -2,8 +2,6 @@ use Rattle.byte_rules.specs.Classes.{isAuthorByte}
 use mathlib.Core.Path.{refl}
 use Rattle.byte_rules.proofs.is_author_byte.Statement.{statement}
 use Rattle.byte_rules.proofs.is_author_byte.Tie as tie
-use Rattle.byte_rules.proofs.is_author_byte.Reads as reads
-use Rattle.byte_rules.proofs.is_author_byte.Lts as lts
 
 returns : tie.Need-returns
 unfolding isAuthorByte

@@ -2,8 +2,6 @@ use Rattle.byte_rules.specs.Classes.{isBlank}
 use mathlib.Core.Path.{refl}
 use Rattle.byte_rules.proofs.is_blank.Statement.{statement}
 use Rattle.byte_rules.proofs.is_blank.Tie as tie
-use Rattle.byte_rules.proofs.is_blank.Reads as reads
-use Rattle.byte_rules.proofs.is_blank.Lts as lts
 
 returns : tie.Need-returns
 unfolding isBlank

@@ -2,8 +2,6 @@ use Rattle.byte_rules.specs.Classes.{isCapital}
 use mathlib.Core.Path.{refl}
 use Rattle.byte_rules.proofs.is_capital.Statement.{statement}
 use Rattle.byte_rules.proofs.is_capital.Tie as tie
-use Rattle.byte_rules.proofs.is_capital.Reads as reads
-use Rattle.byte_rules.proofs.is_capital.Lts as lts
 
 returns : tie.Need-returns
 unfolding isCapital

@@ -2,8 +2,6 @@ use Rattle.byte_rules.specs.Classes.{isCloser}
 use mathlib.Core.Path.{refl}
 use Rattle.byte_rules.proofs.is_closer.Statement.{statement}
 use Rattle.byte_rules.proofs.is_closer.Tie as tie
-use Rattle.byte_rules.proofs.is_closer.Reads as reads
-use Rattle.byte_rules.proofs.is_closer.Lts as lts
 
 returns : tie.Need-returns
 unfolding isCloser

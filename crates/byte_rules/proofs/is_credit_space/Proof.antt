@@ -2,8 +2,6 @@ use Rattle.byte_rules.specs.Classes.{isCreditSpace}
 use mathlib.Core.Path.{refl}
 use Rattle.byte_rules.proofs.is_credit_space.Statement.{statement}
 use Rattle.byte_rules.proofs.is_credit_space.Tie as tie
-use Rattle.byte_rules.proofs.is_credit_space.Reads as reads
-use Rattle.byte_rules.proofs.is_credit_space.Lts as lts
 
 returns : tie.Need-returns
 unfolding isCreditSpace

@@ -2,8 +2,6 @@ use Rattle.byte_rules.specs.Classes.{isDigit}
 use mathlib.Core.Path.{refl}
 use Rattle.byte_rules.proofs.is_digit.Statement.{statement}
 use Rattle.byte_rules.proofs.is_digit.Tie as tie
-use Rattle.byte_rules.proofs.is_digit.Reads as reads
-use Rattle.byte_rules.proofs.is_digit.Lts as lts
 
 returns : tie.Need-returns
 unfolding isDigit

@@ -2,8 +2,6 @@ use Rattle.byte_rules.specs.Classes.{isItalicOpener}
 use mathlib.Core.Path.{refl}
 use Rattle.byte_rules.proofs.is_italic_opener.Statement.{statement}
 use Rattle.byte_rules.proofs.is_italic_opener.Tie as tie
-use Rattle.byte_rules.proofs.is_italic_opener.Reads as reads
-use Rattle.byte_rules.proofs.is_italic_opener.Lts as lts
 
 returns : tie.Need-returns
 unfolding isItalicOpener

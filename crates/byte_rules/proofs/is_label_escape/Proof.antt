@@ -2,8 +2,6 @@ use Rattle.byte_rules.specs.Classes.{isLabelEscape}
 use mathlib.Core.Path.{refl}
 use Rattle.byte_rules.proofs.is_label_escape.Statement.{statement}
 use Rattle.byte_rules.proofs.is_label_escape.Tie as tie
-use Rattle.byte_rules.proofs.is_label_escape.Reads as reads
-use Rattle.byte_rules.proofs.is_label_escape.Lts as lts
 
 returns : tie.Need-returns
 unfolding isLabelEscape

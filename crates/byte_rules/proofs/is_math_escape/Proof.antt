@@ -2,8 +2,6 @@ use Rattle.byte_rules.specs.Classes.{isMathEscape}
 use mathlib.Core.Path.{refl}
 use Rattle.byte_rules.proofs.is_math_escape.Statement.{statement}
 use Rattle.byte_rules.proofs.is_math_escape.Tie as tie
-use Rattle.byte_rules.proofs.is_math_escape.Reads as reads
-use Rattle.byte_rules.proofs.is_math_escape.Lts as lts
 
 returns : tie.Need-returns
 unfolding isMathEscape

@@ -2,8 +2,6 @@ use Rattle.byte_rules.specs.Classes.{isSmall}
 use mathlib.Core.Path.{refl}
 use Rattle.byte_rules.proofs.is_small.Statement.{statement}
 use Rattle.byte_rules.proofs.is_small.Tie as tie
-use Rattle.byte_rules.proofs.is_small.Reads as reads
-use Rattle.byte_rules.proofs.is_small.Lts as lts
 
 returns : tie.Need-returns
 unfolding isSmall

@@ -1,11 +1,7 @@
 use Rattle.byte_rules.specs.Classes.{isTextEscape}
-use mathlib.Core.Path.{sym, _∙_}
 use borrow.Author.Needs.{needs}
 use Rattle.byte_rules.proofs.is_text_escape.Statement.{statement}
 use Rattle.byte_rules.proofs.is_text_escape.Tie as tie
-use Rattle.byte_rules.proofs.is_text_escape.Reads as reads
-use Rattle.byte_rules.proofs.is_text_escape.Lts as lts
-use Rattle.byte_rules.proofs.is_label_escape.Reads as is-label-escape-reads
 
 is-label-escape-requires : tie.Need-is-label-escape-requires
 is-label-escape-requires c κs = search needs

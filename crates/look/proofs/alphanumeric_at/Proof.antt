@@ -4,9 +4,6 @@ use mathlib.Core.Path.{sym, _∙_}
 use borrow.Author.Needs.{needs}
 use Rattle.look.proofs.alphanumeric_at.Statement.{statement}
 use Rattle.look.proofs.alphanumeric_at.Tie as tie
-use Rattle.look.proofs.alphanumeric_at.Reads as reads
-use Rattle.look.proofs.alphanumeric_at.Lts as lts
-use Rattle.byte_rules.proofs.is_alphanumeric.Reads as is-alphanumeric-reads
 
 shared-slice-read-is-alphanumeric : tie.Need-shared-slice-read-is-alphanumeric
 shared-slice-read-is-alphanumeric c = search needs

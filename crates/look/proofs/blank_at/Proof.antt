@@ -4,9 +4,6 @@ use mathlib.Core.Path.{sym, _∙_}
 use borrow.Author.Needs.{needs}
 use Rattle.look.proofs.blank_at.Statement.{statement}
 use Rattle.look.proofs.blank_at.Tie as tie
-use Rattle.look.proofs.blank_at.Reads as reads
-use Rattle.look.proofs.blank_at.Lts as lts
-use Rattle.byte_rules.proofs.is_blank.Reads as is-blank-reads
 
 shared-slice-read-is-blank : tie.Need-shared-slice-read-is-blank
 shared-slice-read-is-blank c = search needs

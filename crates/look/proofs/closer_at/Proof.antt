@@ -4,9 +4,6 @@ use mathlib.Core.Path.{sym, _∙_}
 use borrow.Author.Needs.{needs}
 use Rattle.look.proofs.closer_at.Statement.{statement}
 use Rattle.look.proofs.closer_at.Tie as tie
-use Rattle.look.proofs.closer_at.Reads as reads
-use Rattle.look.proofs.closer_at.Lts as lts
-use Rattle.byte_rules.proofs.is_closer.Reads as is-closer-reads
 
 shared-slice-read-is-closer : tie.Need-shared-slice-read-is-closer
 shared-slice-read-is-closer c = search needs

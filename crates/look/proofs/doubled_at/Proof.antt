@@ -4,9 +4,6 @@ use mathlib.Core.Path.{sym}
 use borrow.Author.Needs.{needs}
 use Rattle.look.proofs.doubled_at.Statement.{statement}
 use Rattle.look.proofs.doubled_at.Tie as tie
-use Rattle.look.proofs.doubled_at.Reads as reads
-use Rattle.look.proofs.doubled_at.Lts as lts
-use Rattle.look.proofs.byte_at.Reads as byte-at-reads
 
 byte-at-requires : tie.Need-byte-at-requires
 byte-at-requires c κs = search needs

@@ -4,9 +4,6 @@ use mathlib.Core.Path.{sym, _∙_}
 use borrow.Author.Needs.{needs}
 use Rattle.look.proofs.italic_opener_at.Statement.{statement}
 use Rattle.look.proofs.italic_opener_at.Tie as tie
-use Rattle.look.proofs.italic_opener_at.Reads as reads
-use Rattle.look.proofs.italic_opener_at.Lts as lts
-use Rattle.byte_rules.proofs.is_italic_opener.Reads as is-italic-opener-reads
 
 shared-slice-read-is-italic-opener : tie.Need-shared-slice-read-is-italic-opener
 shared-slice-read-is-italic-opener c = search needs

@@ -1,12 +1,9 @@
 use Rattle.look.proofs.Laws.{word-past, word-here}
 use Rattle.byte_rules.proofs.Laws.{rest-is}
-use mathlib.Core.Path.{sym, _∙_}
+use mathlib.Core.Path.{_∙_}
 use borrow.Author.Needs.{needs}
 use Rattle.look.proofs.word_at.Statement.{statement}
 use Rattle.look.proofs.word_at.Tie as tie
-use Rattle.look.proofs.word_at.Reads as reads
-use Rattle.look.proofs.word_at.Lts as lts
-use Rattle.look.proofs.starts.Reads as starts-reads
 
 returns : tie.Need-returns
 returns c = word-past _ _ _ (c .if1 .taken)

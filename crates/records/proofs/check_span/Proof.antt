@@ -1,10 +1,8 @@
 use Rattle.records.proofs.check_span.Statement.{statement}
 use Rattle.records.proofs.check_span.Tie as tie
-use Rattle.records.proofs.check_span.Reads as reads
-use Rattle.records.proofs.check_span.Lts as lts
 use Rattle.records.proofs.Answers.{span-long}
 use Rattle.records.specs.Answer.{spanRefusal}
-use borrow.Author.Tests.{le-ltb, lt-ltb}
+use borrow.Author.Tests.{le-ltb}
 
 returns : tie.Need-returns
 returns c = span-long _ _ _ (c .if1 .taken)

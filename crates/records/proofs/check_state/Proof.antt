@@ -1,10 +1,8 @@
 use Rattle.records.proofs.check_state.Statement.{statement}
 use Rattle.records.proofs.check_state.Tie as tie
-use Rattle.records.proofs.check_state.Reads as reads
-use Rattle.records.proofs.check_state.Lts as lts
 use Rattle.records.proofs.Answers.{state-long}
 use Rattle.records.specs.Answer.{stateRefusal}
-use borrow.Author.Tests.{le-ltb, lt-ltb}
+use borrow.Author.Tests.{le-ltb}
 
 returns : tie.Need-returns
 returns c = state-long _ _ _ (c .if1 .taken)

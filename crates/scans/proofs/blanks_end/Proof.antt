@@ -1,9 +1,6 @@
 use Rattle.scans.specs.Ends.{stepBy}
 use Rattle.scans.proofs.blanks_end.Statement.{statement}
 use Rattle.scans.proofs.blanks_end.Tie as tie
-use Rattle.scans.proofs.blanks_end.Reads as reads
-use Rattle.scans.proofs.blanks_end.Lts as lts
-use Rattle.scans.proofs.scan_by.Reads as scan-by-reads
 
 scan-by-requires : tie.Need-scan-by-requires
 scan-by-requires c κs = tt

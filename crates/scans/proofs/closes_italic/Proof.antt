@@ -5,10 +5,6 @@ use Rattle.scans.specs.Ends.{closesItalic}
 use borrow.Author.Needs.{needs}
 use Rattle.scans.proofs.closes_italic.Statement.{statement}
 use Rattle.scans.proofs.closes_italic.Tie as tie
-use Rattle.scans.proofs.closes_italic.Reads as reads
-use Rattle.scans.proofs.closes_italic.Lts as lts
-use Rattle.look.proofs.alphanumeric_at.Reads as alphanumeric-at-reads
-use Rattle.look.proofs.byte_at.Reads as byte-at-reads
 
 byte-at-requires : tie.Need-byte-at-requires
 byte-at-requires c κs = search needs

@@ -2,10 +2,6 @@ use Rattle.scans.proofs.RustLaws.{italic-rust}
 use borrow.Author.Needs.{needs}
 use Rattle.scans.proofs.italic_step.Statement.{statement}
 use Rattle.scans.proofs.italic_step.Tie as tie
-use Rattle.scans.proofs.italic_step.Reads as reads
-use Rattle.scans.proofs.italic_step.Lts as lts
-use Rattle.look.proofs.byte_at.Reads as byte-at-reads
-use Rattle.look.proofs.doubled_at.Reads as doubled-at-reads
 
 doubled-at-requires : tie.Need-doubled-at-requires
 doubled-at-requires c κs = search needs

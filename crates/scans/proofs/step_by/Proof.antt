@@ -2,12 +2,6 @@ use Rattle.scans.specs.Ends.{stepBy}
 use borrow.Author.Needs.{needs}
 use Rattle.scans.proofs.step_by.Statement.{statement}
 use Rattle.scans.proofs.step_by.Tie as tie
-use Rattle.scans.proofs.step_by.Reads as reads
-use Rattle.scans.proofs.step_by.Lts as lts
-use Rattle.scans.proofs.blanks_step.Reads as blanks-step-reads
-use Rattle.scans.proofs.italic_step.Reads as italic-step-reads
-use Rattle.scans.proofs.subscript_step.Reads as subscript-step-reads
-use Rattle.scans.proofs.tag_step.Reads as tag-step-reads
 
 enum-told : tie.Need-enum-told
 enum-told c = search needs

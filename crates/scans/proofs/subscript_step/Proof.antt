@@ -2,10 +2,6 @@ use Rattle.scans.proofs.RustLaws.{subscript-rust}
 use borrow.Author.Needs.{needs}
 use Rattle.scans.proofs.subscript_step.Statement.{statement}
 use Rattle.scans.proofs.subscript_step.Tie as tie
-use Rattle.scans.proofs.subscript_step.Reads as reads
-use Rattle.scans.proofs.subscript_step.Lts as lts
-use Rattle.look.proofs.blank_at.Reads as blank-at-reads
-use Rattle.look.proofs.closer_at.Reads as closer-at-reads
 
 blank-at-requires : tie.Need-blank-at-requires
 blank-at-requires c κs = search needs

@@ -1,10 +1,14 @@
 -- `unescape::unescape` meets its contract: its answer and the room are those of a text call with the span's refusal.
 -- Assumes nothing.
+use mathlib.Core.Path.{sym}
+use mathlib.Core.Logic.{⊎-elim}
 use native.Mathlib.Omega.{arith}
 use borrow.Author.Needs.{needs}
+use denote.Ref.{now}
 use Rattle.records.proofs.Texts.{told-refused, told-short, told-done}
-use mathlib.Core.Path.{sym}
 use Rattle.records.proofs.Answers.{span-accepted}
+use Rattle.unescape.specs.Unescape.{isEscape, part}
+use Rattle.unescape.proofs.Laws.{unescaped-length}
 use Rattle.unescape.proofs.unescape.Statement.{statement}
 use Rattle.unescape.proofs.unescape.Tie as tie
 
@@ -34,11 +38,14 @@ unescaped-len-requires c κs = search needs
 
 returns-2 : tie.Need-returns-2
 returns-2 c =
-    let told = c .before .before .before in
-    told-short _ _ _ _ (rw (told .enum-told .given .1) at (told .before .before .check-span .ensures)) (c .before .unescaped-len .ensures) (c .if1 .taken)
+    let told = c .before .before .before .before in
+    told-short _ _ _ _ (rw (told .enum-told .given .1) at (told .before .before .check-span .ensures)) (c .before .unescaped-len .ensures) (c .if2 .taken)
 
+-- the room is enough: it is as long as the text, or the bytes were counted
 put-unescaped-requires : tie.Need-put-unescaped-requires
-put-unescaped-requires c κs = search needs
+put-unescaped-requires c κs =
+    let a = c .before .before .before .before .before .before .before .before .args in
+    ⊎-elim (λ w. omega (arith, w .1 .ensures, w .2 .left)) (λ w. omega (arith, w .left, unescaped-length (isEscape (a .kind)) (part (now (a .buf)) (a .start) (a .end)))) (c .before .if1 .came)
 
 same-length : tie.Need-same-length
 same-length c = search needs
@@ -46,10 +53,10 @@ same-length c = search needs
 returns-3 : tie.Need-returns-3
 returns-3 c =
     let put = c .before .before in
-    let len = put .before .before .before in
-    let told = len .before .before in
-    told-done _ _ _ _ (rw (told .enum-told .given .1) at (told .before .before .check-span .ensures)) (len .unescaped-len .ensures)
-    (omega arith) _ (rw (len .unescaped-len .ensures) (put .put-unescaped .ensures))
+    let told = put .before .before .before .before in
+    let counted = put .put-unescaped .ensures .0 in
+    told-done _ _ _ _ (rw (told .enum-told .given .1) at (told .before .before .check-span .ensures)) counted
+    (omega (arith, counted, put-unescaped-requires (put .before) (put .put-unescaped .lifetimes))) _ (rw counted (put .put-unescaped .ensures .1))
 
 pub unescape-spec : {M : Type 1} → statement M
 unescape-spec =

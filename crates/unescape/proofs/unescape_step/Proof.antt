@@ -1,9 +1,9 @@
 -- `unescape::unescape_step` meets its contract, test by test.
 -- Assumes nothing.
-use mathlib.Core.Path.{sym}
+use mathlib.Core.Path.{sym, _∙_}
 use native.Mathlib.Omega.{arith}
 use Rattle.unescape.specs.Unescape.{stepAt}
-use Rattle.unescape.proofs.Laws.{step-last}
+use Rattle.unescape.proofs.Laws.{step-single, step-last}
 use borrow.Author.Needs.{needs}
 use Rattle.unescape.proofs.unescape_step.Statement.{statement}
 use Rattle.unescape.proofs.unescape_step.Tie as tie
@@ -14,26 +14,25 @@ returns c = sym (step-last _ _ _ (omega arith))
 shared-slice-read-c : tie.Need-shared-slice-read-c
 shared-slice-read-c c = search needs
 
-is-escape-requires : tie.Need-is-escape-requires
-is-escape-requires c κs = search needs
-
 add-byte-at : tie.Need-add-byte-at
 add-byte-at c = search needs
 
 byte-at-requires : tie.Need-byte-at-requires
 byte-at-requires c κs = search needs
 
+is-escape-requires : tie.Need-is-escape-requires
+is-escape-requires c κs = search needs
+
 returns-2 : tie.Need-returns-2
 unfolding stepAt
-returns-2 c = rw (← c .before .before .before .is-escape .ensures, c .before .before .if2 .taken, ← c .before .byte-at .ensures, c .if3 .taken)
+returns-2 c = rw (← c .before .before .before .byte-at .ensures, c .before .before .if2 .taken, ← c .before .is-escape .ensures, c .if3 .taken)
 
 returns-3 : tie.Need-returns-3
 unfolding stepAt
-returns-3 c = rw (← c .before .before .before .is-escape .ensures, c .before .before .if2 .taken, ← c .before .byte-at .ensures, c .if3 .left)
+returns-3 c = rw (← c .before .before .before .byte-at .ensures, c .before .before .if2 .taken, ← c .before .is-escape .ensures, c .if3 .left)
 
 returns-4 : tie.Need-returns-4
-unfolding stepAt
-returns-4 c = rw (← c .before .is-escape .ensures, c .if2 .left)
+returns-4 c = sym (step-single _ _ _ (sym (c .before .byte-at .ensures) ∙ c .if2 .left))
 
 pub unescape-step-spec : {M : Type 1} → statement M
 unescape-step-spec =
@@ -41,9 +40,9 @@ unescape-step-spec =
     (tie.spec
     returns
     shared-slice-read-c
-    is-escape-requires
     add-byte-at
     byte-at-requires
+    is-escape-requires
     returns-2
     returns-3
     returns-4)

@@ -1,12 +1,13 @@
 -- `unescape::unescaped_len` meets its contract: what is counted and what is to come make up the whole.
 -- Assumes nothing.
-use Prim.Native.Nat.{_+_, _-_}
+use Prim.Native.Nat.{ℕ, _+_, _-_, _≤_}
 use mathlib.Core.Path.{_≡_, ap}
 use native.Mathlib.Omega.{arith}
 use denote.Ref.{now}
 use lib.ListN.{length, drop}
 use Rattle.unescape.specs.Unescape.{isEscape, unescaped}
 use Rattle.unescape.proofs.Laws.{unescaped-step, unescaped-end, unescaped-length, step-some, step-within}
+use Rattle.unescape.proofs.Runs.{run-ge, run-length}
 use Rattle.unescape.proofs.unescaped_len.Statement.{statement}
 use Rattle.unescape.proofs.unescaped_len.Tie as tie
 
@@ -19,34 +20,74 @@ abbrev μ-loop : tie.MeasureT-loop
 loop-holds : tie.Need-loop-holds Inv-loop μ-loop
 loop-holds c = omega arith
 
+plain-end-requires : tie.Need-plain-end-requires Inv-loop μ-loop
+plain-end-requires c κs = tt
+
+-- behind the run of plain bytes
+module _ (c : tie.After-plain-end Inv-loop μ-loop) where
+  abbrev args : tie.Start Inv-loop μ-loop
+  args = c .before .before .before .before
+
+  abbrev i : ℕ
+  i = c .before .before .loop .i
+
+  abbrev p : ℕ
+  p = c .plain-end .result
+
+  abbrev to-come : ℕ → ℕ
+  to-come k = length (unescaped (isEscape (args .args .kind)) (drop k (now (args .args .text))))
+
+  past : i ≤ p
+  past = omega (arith, c .plain-end .ensures, run-ge (args .args .kind) (now (args .args .text)) i (omega (arith, c .before .loop-test .taken)))
+
+  run : to-come i ≡ (p - i) + to-come p
+  run = run-length (args .args .kind) (now (args .args .text)) i p (c .plain-end .ensures) past
+
+  few : length (unescaped (isEscape (args .args .kind)) (now (args .args .text))) ≤ length (now (args .args .text))
+  few = unescaped-length (isEscape (args .args .kind)) (now (args .args .text))
+
+sub-n : tie.Need-sub-n Inv-loop μ-loop
+sub-n c = past c
+
+add-n : tie.Need-add-n Inv-loop μ-loop
+add-n c = omega (arith, run c, few c, c .before .before .loop .inv)
+
+returns : tie.Need-returns Inv-loop μ-loop
+returns c =
+    let r = c .before in
+    let a = args r .args in
+    omega (arith, run r, past r, r .before .before .loop .inv, ap length (unescaped-end (isEscape (a .kind)) (now (a .text)) (p r) (c .if1 .taken)))
+
 unescape-step-requires : tie.Need-unescape-step-requires Inv-loop μ-loop
 unescape-step-requires c κs = tt
 
 add-i : tie.Need-add-i Inv-loop μ-loop
 add-i c =
-    let a = c .before .before .before .before .args in
-    omega (arith, c .unescape-step .ensures, step-within (isEscape (a .kind)) (now (a .text)) (c .before .before .loop .i) (c .before .loop-test .taken))
+    let r = c .before .before in
+    let a = args r .args in
+    omega (arith, c .unescape-step .ensures, step-within (isEscape (a .kind)) (now (a .text)) (p r) (c .before .if1 .left))
 
-add-n : tie.Need-add-n Inv-loop μ-loop
-add-n c =
-    let a = c .before .before .before .before .args in
-    let esc = isEscape (a .kind) in
-    let step = unescaped-step esc (now (a .text)) (c .before .before .loop .i) (c .before .loop-test .taken) in
-    omega (arith, ap length step, unescaped-length esc (now (a .text)))
+add-n-2 : tie.Need-add-n-2 Inv-loop μ-loop
+add-n-2 c =
+    let r = c .before .before in
+    let a = args r .args in
+    omega (arith, run r, few r, past r, r .before .before .loop .inv, ap length (unescaped-step (isEscape (a .kind)) (now (a .text)) (p r) (c .before .if1 .left)))
 
 loop-less : tie.Need-loop-less Inv-loop μ-loop
 loop-less c =
-    let a = c .before .before .before .before .args in
-    omega (arith, c .unescape-step .ensures, step-some (isEscape (a .kind)) (now (a .text)) (c .before .before .loop .i))
+    let r = c .before .before in
+    let a = args r .args in
+    omega (arith, past r, c .before .if1 .left, c .unescape-step .ensures, step-some (isEscape (a .kind)) (now (a .text)) (p r))
 
 loop-again : tie.Need-loop-again Inv-loop μ-loop
 loop-again c =
-    let a = c .before .before .before .before .args in
-    let step = unescaped-step (isEscape (a .kind)) (now (a .text)) (c .before .before .loop .i) (c .before .loop-test .taken) in
-    rw (c .unescape-step .ensures) (omega (arith, ap length step))
+    let r = c .before .before in
+    let a = args r .args in
+    let step = ap length (unescaped-step (isEscape (a .kind)) (now (a .text)) (p r) (c .before .if1 .left)) in
+    rw (c .unescape-step .ensures) (omega (arith, run r, past r, r .before .before .loop .inv, step))
 
-returns : tie.Need-returns Inv-loop μ-loop
-returns c =
+returns-2 : tie.Need-returns-2 Inv-loop μ-loop
+returns-2 c =
     let a = c .before .before .before .args in
     omega (arith, ap length (unescaped-end (isEscape (a .kind)) (now (a .text)) (c .before .loop .i) (c .loop-test .left)))
 
@@ -57,9 +98,13 @@ unescaped-len-spec =
     Inv-loop
     μ-loop
     loop-holds
+    plain-end-requires
+    sub-n
+    add-n
+    returns
     unescape-step-requires
     add-i
-    add-n
+    add-n-2
     loop-less
     loop-again
-    returns)
+    returns-2)

@@ -4,10 +4,6 @@ use native.Mathlib.Omega.{arith}
 use borrow.Author.Needs.{needs}
 use Rattle.view_listing.proofs.show_number.Statement.{statement}
 use Rattle.view_listing.proofs.show_number.Tie as tie
-use Rattle.view_listing.proofs.show_number.Reads as reads
-use Rattle.view_listing.proofs.show_number.Lts as lts
-use Rattle.decimal.proofs.put_decimal.Reads as put-decimal-reads
-use Rattle.io.proofs.write_all.Reads as write-all-reads
 
 slice-aggregate-put-decimal : tie.Need-slice-aggregate-put-decimal
 slice-aggregate-put-decimal c = search needs

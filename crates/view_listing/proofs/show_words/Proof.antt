@@ -1,13 +1,8 @@
 use Prim.Native.Nat.{_≤_, _-_}
 use lib.ListN.{length}
-use native.Mathlib.Omega.{arith}
 use borrow.Author.Needs.{needs}
 use Rattle.view_listing.proofs.show_words.Statement.{statement}
 use Rattle.view_listing.proofs.show_words.Tie as tie
-use Rattle.view_listing.proofs.show_words.Reads as reads
-use Rattle.view_listing.proofs.show_words.Lts as lts
-use Rattle.io.proofs.write_all.Reads as write-all-reads
-use Rattle.view_listing.proofs.show_word.Reads as show-word-reads
 
 abbrev Inv-loop : tie.InvT-loop
 Inv-loop room i₀ t3 t4 i = i ≤ length room

@@ -3,9 +3,6 @@ use borrow.Author.Tests.{eq-eqb, ne-eqb}
 use borrow.Author.Needs.{needs}
 use Rattle.byte_rules.proofs.names.fits_sign.Statement.{statement}
 use Rattle.byte_rules.proofs.names.fits_sign.Tie as tie
-use Rattle.byte_rules.proofs.names.fits_sign.Reads as reads
-use Rattle.byte_rules.proofs.names.fits_sign.Lts as lts
-use Rattle.byte_rules.proofs.names.upper.Reads as upper-reads
 
 upper-requires : tie.Need-upper-requires
 upper-requires c κs = search needs

@@ -2,9 +2,6 @@ use Rattle.byte_rules.specs.Names.{isLabelByte}
 use borrow.Author.Needs.{needs}
 use Rattle.byte_rules.proofs.names.is_label_byte.Statement.{statement}
 use Rattle.byte_rules.proofs.names.is_label_byte.Tie as tie
-use Rattle.byte_rules.proofs.names.is_label_byte.Reads as reads
-use Rattle.byte_rules.proofs.names.is_label_byte.Lts as lts
-use Rattle.byte_rules.proofs.is_alphanumeric.Reads as is-alphanumeric-reads
 
 is-alphanumeric-requires : tie.Need-is-alphanumeric-requires
 is-alphanumeric-requires c κs = search needs

@@ -1,4 +1,4 @@
-use Prim.Native.Nat.{_≤_, _-_}
+use Prim.Native.Nat.{_-_}
 use mathlib.Core.Path.{_≡_, refl, sym, _∙_}
 use native.Mathlib.Omega.{arith}
 use borrow.Author.Needs.{needs}
@@ -7,9 +7,6 @@ use Rattle.byte_rules.specs.Names.{isName}
 use Rattle.byte_rules.proofs.NameLaws.{name-at, name-end, name-other}
 use Rattle.byte_rules.proofs.names.is_name.Statement.{statement}
 use Rattle.byte_rules.proofs.names.is_name.Tie as tie
-use Rattle.byte_rules.proofs.names.is_name.Reads as reads
-use Rattle.byte_rules.proofs.names.is_name.Lts as lts
-use Rattle.byte_rules.proofs.names.fits_sign.Reads as fits-sign-reads
 
 abbrev Inv-loop : tie.InvT-loop
 Inv-loop sign name i₀ i = isName sign name ≡ isName (drop i sign) (drop i name)

@@ -2,9 +2,6 @@ use Rattle.byte_rules.specs.Names.{isReservedName}
 use borrow.Author.Needs.{needs}
 use Rattle.byte_rules.proofs.names.is_reserved_name.Statement.{statement}
 use Rattle.byte_rules.proofs.names.is_reserved_name.Tie as tie
-use Rattle.byte_rules.proofs.names.is_reserved_name.Reads as reads
-use Rattle.byte_rules.proofs.names.is_reserved_name.Lts as lts
-use Rattle.byte_rules.proofs.names.is_name.Reads as is-name-reads
 
 slice-aggregate-is-name : tie.Need-slice-aggregate-is-name
 slice-aggregate-is-name c = search needs

@@ -1,15 +1,11 @@
-use Prim.Native.Nat.{_≤_, _-_}
+use Prim.Native.Nat.{_-_}
 use mathlib.Core.Path.{_≡_, refl, sym, _∙_}
-use native.Mathlib.Omega.{arith}
 use borrow.Author.Needs.{needs}
 use lib.ListN.{length, drop}
 use Rattle.byte_rules.specs.Names.{isValidLabel}
 use Rattle.byte_rules.proofs.NameLaws.{valid-at, valid-end}
 use Rattle.byte_rules.proofs.names.is_valid_label.Statement.{statement}
 use Rattle.byte_rules.proofs.names.is_valid_label.Tie as tie
-use Rattle.byte_rules.proofs.names.is_valid_label.Reads as reads
-use Rattle.byte_rules.proofs.names.is_valid_label.Lts as lts
-use Rattle.byte_rules.proofs.names.is_label_byte.Reads as is-label-byte-reads
 
 abbrev Inv-loop : tie.InvT-loop
 Inv-loop label i₀ i = isValidLabel label ≡ isValidLabel (drop i label)

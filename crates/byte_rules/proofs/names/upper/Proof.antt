@@ -5,9 +5,6 @@ use mathlib.Core.Path.{sym, _∙_}
 use borrow.Author.Needs.{needs}
 use Rattle.byte_rules.proofs.names.upper.Statement.{statement}
 use Rattle.byte_rules.proofs.names.upper.Tie as tie
-use Rattle.byte_rules.proofs.names.upper.Reads as reads
-use Rattle.byte_rules.proofs.names.upper.Lts as lts
-use Rattle.byte_rules.proofs.is_small.Reads as is-small-reads
 
 is-small-requires : tie.Need-is-small-requires
 is-small-requires c κs = search needs

@@ -5,9 +5,6 @@ use lib.ListN.{List·getD-eq-default}
 use borrow.Author.Needs.{needs}
 use Rattle.byte_rules.proofs.utf8.byte_or.Statement.{statement}
 use Rattle.byte_rules.proofs.utf8.byte_or.Tie as tie
-use Rattle.byte_rules.proofs.utf8.byte_or.Reads as reads
-use Rattle.byte_rules.proofs.utf8.byte_or.Lts as lts
-use Rattle.byte_rules.proofs.utf8.wide.Reads as wide-reads
 
 shared-slice-read-wide : tie.Need-shared-slice-read-wide
 shared-slice-read-wide c = search needs

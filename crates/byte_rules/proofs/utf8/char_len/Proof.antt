@@ -1,12 +1,9 @@
-use mathlib.Core.Path.{sym, _∙_}
+use mathlib.Core.Path.{_∙_}
 use Rattle.byte_rules.proofs.CharLaws.{char-from, char-past}
 use Rattle.byte_rules.proofs.Laws.{rest-is}
 use borrow.Author.Needs.{needs}
 use Rattle.byte_rules.proofs.utf8.char_len.Statement.{statement}
 use Rattle.byte_rules.proofs.utf8.char_len.Tie as tie
-use Rattle.byte_rules.proofs.utf8.char_len.Reads as reads
-use Rattle.byte_rules.proofs.utf8.char_len.Lts as lts
-use Rattle.byte_rules.proofs.utf8.front_len.Reads as front-len-reads
 
 returns : tie.Need-returns
 returns c = char-past _ _ (c .if1 .taken)

@@ -1,15 +1,8 @@
-use mathlib.Core.Path.{sym, _∙_}
 use Rattle.byte_rules.specs.Utf8.{charLen, isOne}
 use borrow.Author.Tests.{le-leb, lt-leb}
 use borrow.Author.Needs.{needs}
 use Rattle.byte_rules.proofs.utf8.front_len.Statement.{statement}
 use Rattle.byte_rules.proofs.utf8.front_len.Tie as tie
-use Rattle.byte_rules.proofs.utf8.front_len.Reads as reads
-use Rattle.byte_rules.proofs.utf8.front_len.Lts as lts
-use Rattle.byte_rules.proofs.utf8.byte_or.Reads as byte-or-reads
-use Rattle.byte_rules.proofs.utf8.is_four.Reads as is-four-reads
-use Rattle.byte_rules.proofs.utf8.is_three.Reads as is-three-reads
-use Rattle.byte_rules.proofs.utf8.is_two.Reads as is-two-reads
 
 byte-or-requires : tie.Need-byte-or-requires
 byte-or-requires c κs = search needs

@@ -2,10 +2,6 @@ use Rattle.byte_rules.specs.Utf8.{isThree}
 use borrow.Author.Needs.{needs}
 use Rattle.byte_rules.proofs.utf8.is_three.Statement.{statement}
 use Rattle.byte_rules.proofs.utf8.is_three.Tie as tie
-use Rattle.byte_rules.proofs.utf8.is_three.Reads as reads
-use Rattle.byte_rules.proofs.utf8.is_three.Lts as lts
-use Rattle.byte_rules.proofs.utf8.is_tail.Reads as is-tail-reads
-use Rattle.byte_rules.proofs.utf8.within.Reads as within-reads
 
 within-requires : tie.Need-within-requires
 within-requires c κs = search needs

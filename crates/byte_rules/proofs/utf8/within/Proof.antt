@@ -2,8 +2,6 @@ use Rattle.byte_rules.specs.Utf8.{within}
 use mathlib.Core.Path.{refl}
 use Rattle.byte_rules.proofs.utf8.within.Statement.{statement}
 use Rattle.byte_rules.proofs.utf8.within.Tie as tie
-use Rattle.byte_rules.proofs.utf8.within.Reads as reads
-use Rattle.byte_rules.proofs.utf8.within.Lts as lts
 
 returns : tie.Need-returns
 unfolding within

@@ -3,8 +3,6 @@ use Rattle.comment_parser.specs.Item.{placedOf}
 use borrow.Author.Needs.{needs}
 use Rattle.comment_parser.proofs.CommentItem.placed.Statement.{statement}
 use Rattle.comment_parser.proofs.CommentItem.placed.Tie as tie
-use Rattle.comment_parser.proofs.CommentItem.placed.Reads as reads
-use Rattle.comment_parser.proofs.CommentItem.placed.Lts as lts
 
 -- src/lib.rt:59:24
 enum-known-self : tie.Need-enum-known-self

@@ -1,20 +1,14 @@
 use Prim.Native.Nat.{ℕ, _≤_}
-use mathlib.Core.Path.{_≡_, sym, _∙_, ap}
+use mathlib.Core.Path.{_≡_, sym, _∙_}
 use Rattle.records.specs.Answer.{checkedAnswer, stateRefusal, longest}
 use Rattle.records.specs.declared.Checked.{Checked}
 use Rattle.records.specs.declared.Checked.the-variants.{Good}
 use Rattle.records.proofs.Answers.{state-accepted}
 use lib.Seq.{length-take-le}
-use native.Mathlib.Omega.{arith}
 use borrow.Author.Needs.{needs}
 use Rattle.comment_parser.specs.Next.{nextOf, answered}
 use Rattle.comment_parser.proofs.ParserState.next_noted.Statement.{statement}
 use Rattle.comment_parser.proofs.ParserState.next_noted.Tie as tie
-use Rattle.comment_parser.proofs.ParserState.next_noted.Reads as reads
-use Rattle.comment_parser.proofs.ParserState.next_noted.Lts as lts
-use Rattle.comment_parser.proofs.give.Reads as give-reads
-use Rattle.comment_parser.proofs.pass.read_on.Reads as read-on-reads
-use Rattle.records.proofs.check_state.Reads as check-state-reads
 
 -- what a check that found nothing tells
 accepted : (r : Checked) (len pos end : ℕ) → checkedAnswer r ≡ stateRefusal len pos end → r ≡ Good → (len ≤ longest) × (pos ≤ end) × (end ≤ len)

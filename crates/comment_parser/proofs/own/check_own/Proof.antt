@@ -2,8 +2,6 @@ use borrow.Author.Tests.{le-ltb, lt-ltb}
 use Rattle.comment_parser.specs.Own.{ownRefusal}
 use Rattle.comment_parser.proofs.own.check_own.Statement.{statement}
 use Rattle.comment_parser.proofs.own.check_own.Tie as tie
-use Rattle.comment_parser.proofs.own.check_own.Reads as reads
-use Rattle.comment_parser.proofs.own.check_own.Lts as lts
 
 returns : tie.Need-returns
 unfolding ownRefusal

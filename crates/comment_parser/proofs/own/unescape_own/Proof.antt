@@ -5,10 +5,6 @@ use mathlib.Core.Path.{sym, _∙_, ap}
 use borrow.Author.Needs.{needs}
 use Rattle.comment_parser.proofs.own.unescape_own.Statement.{statement}
 use Rattle.comment_parser.proofs.own.unescape_own.Tie as tie
-use Rattle.comment_parser.proofs.own.unescape_own.Reads as reads
-use Rattle.comment_parser.proofs.own.unescape_own.Lts as lts
-use Rattle.comment_parser.proofs.own.check_own.Reads as check-own-reads
-use Rattle.unescape.proofs.unescape.Reads as unescape-reads
 
 check-own-requires : tie.Need-check-own-requires
 check-own-requires c κs = search needs

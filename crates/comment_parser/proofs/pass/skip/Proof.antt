@@ -1,7 +1,7 @@
 use lib.ListN.{length}
 use native.Mathlib.Omega.{arith}
-use mathlib.Core.Path.{_≡_, refl, sym, _∙_}
-use Rattle.scans.specs.Plain.{plainStep, plainEnd}
+use mathlib.Core.Path.{_∙_}
+use Rattle.scans.specs.Plain.{plainStep}
 use Rattle.scans.proofs.Laws.{scan-end, scan-ge}
 use Rattle.comment_parser.proofs.Laws.{skip-to}
 use borrow.Author.Needs.{needs}

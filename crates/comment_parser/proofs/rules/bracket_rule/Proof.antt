@@ -1,5 +1,5 @@
 use native.Mathlib.Omega.{arith}
-use mathlib.Core.Path.{_≡_, refl, sym, _∙_}
+use mathlib.Core.Path.{sym, _∙_}
 use Rattle.look.proofs.Laws.{byte-within}
 use Rattle.scans.proofs.TagLaws.{tag-at, nowhere, covered-nowhere, holds-to}
 use Rattle.comment_parser.specs.Rules.{bracketRule}

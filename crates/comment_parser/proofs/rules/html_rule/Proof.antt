@@ -2,11 +2,6 @@ use Rattle.comment_parser.specs.Rules.{htmlRule}
 use borrow.Author.Needs.{needs}
 use Rattle.comment_parser.proofs.rules.html_rule.Statement.{statement}
 use Rattle.comment_parser.proofs.rules.html_rule.Tie as tie
-use Rattle.comment_parser.proofs.rules.html_rule.Reads as reads
-use Rattle.comment_parser.proofs.rules.html_rule.Lts as lts
-use Rattle.comment_parser.proofs.ParserState.in_html.Reads as in-html-reads
-use Rattle.comment_parser.proofs.ParserState.moved.Reads as moved-reads
-use Rattle.look.proofs.word_at.Reads as word-at-reads
 
 slice-aggregate-word-at : tie.Need-slice-aggregate-word-at
 slice-aggregate-word-at c = search needs

@@ -3,10 +3,6 @@ use Rattle.comment_parser.specs.Rules.{mathRule}
 use borrow.Author.Needs.{needs}
 use Rattle.comment_parser.proofs.rules.math_rule.Statement.{statement}
 use Rattle.comment_parser.proofs.rules.math_rule.Tie as tie
-use Rattle.comment_parser.proofs.rules.math_rule.Reads as reads
-use Rattle.comment_parser.proofs.rules.math_rule.Lts as lts
-use Rattle.comment_parser.proofs.ParserState.moved.Reads as moved-reads
-use Rattle.look.proofs.blank_at.Reads as blank-at-reads
 
 blank-at-requires : tie.Need-blank-at-requires
 blank-at-requires c κs = search needs

@@ -2,10 +2,6 @@ use borrow.Author.Needs.{needs}
 use Rattle.comment_parser.specs.Rules.{newlineRule}
 use Rattle.comment_parser.proofs.rules.newline_rule.Statement.{statement}
 use Rattle.comment_parser.proofs.rules.newline_rule.Tie as tie
-use Rattle.comment_parser.proofs.rules.newline_rule.Reads as reads
-use Rattle.comment_parser.proofs.rules.newline_rule.Lts as lts
-use Rattle.comment_parser.proofs.ParserState.moved.Reads as moved-reads
-use Rattle.comment_parser.proofs.rules.after_lf.Reads as after-lf-reads
 
 after-lf-requires : tie.Need-after-lf-requires
 after-lf-requires c κs = search needs

@@ -1,5 +1,4 @@
 use borrow.Author.Needs.{needs}
-use mathlib.Core.Bool.{_||_, _&&_}
 use Rattle.comment_parser.specs.Rules.{opensAhead}
 use Rattle.comment_parser.proofs.rules.opens_ahead.Statement.{statement}
 use Rattle.comment_parser.proofs.rules.opens_ahead.Tie as tie

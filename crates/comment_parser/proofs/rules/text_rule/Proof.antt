@@ -1,5 +1,5 @@
 use native.Mathlib.Omega.{arith}
-use mathlib.Core.Path.{_≡_, refl, sym, _∙_}
+use mathlib.Core.Path.{sym, _∙_}
 use Rattle.comment_parser.specs.Rules.{textRule}
 use borrow.Author.Needs.{needs}
 use Rattle.comment_parser.proofs.rules.text_rule.Statement.{statement}

@@ -12,10 +12,6 @@ use Rattle.events.specs.Events.{eventWidth}
 use borrow.Author.Needs.{needs}
 use Rattle.comment_view.proofs.listed.events_by_view.Statement.{statement}
 use Rattle.comment_view.proofs.listed.events_by_view.Tie as tie
-use Rattle.comment_view.proofs.listed.events_by_view.Reads as reads
-use Rattle.comment_view.proofs.listed.events_by_view.Lts as lts
-use Rattle.comment_view.proofs.listed.lay_by_view.Reads as lay-by-view-reads
-use Rattle.records.proofs.check_span.Reads as check-span-reads
 
 -- all is laid and counted: whether it fits decides the answer
 module _ (n : ℕ) (r : Option Answer) (ws : List (List ℕ)) (room out : List ℕ) (good : none ≡ r) (all : (n ≡ length ws) × (out ≡ laid eventWidth ws room)) where

@@ -21,10 +21,6 @@ use Rattle.comment_view.proofs.Turns.{stays-inside, lays-one}
 use borrow.Author.Needs.{needs}
 use Rattle.comment_view.proofs.listed.lay_step.Statement.{statement}
 use Rattle.comment_view.proofs.listed.lay_step.Tie as tie
-use Rattle.comment_view.proofs.listed.lay_step.Reads as reads
-use Rattle.comment_view.proofs.listed.lay_step.Lts as lts
-use Rattle.comment_parser.proofs.CommentItem.placed.Reads as placed-reads
-use Rattle.records.proofs.lay4.Reads as lay4-reads
 
 enum-known-step : tie.Need-enum-known-step
 enum-known-step c = search needs

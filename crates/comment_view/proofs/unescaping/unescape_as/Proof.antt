@@ -1,11 +1,6 @@
 use borrow.Author.Needs.{needs}
 use Rattle.comment_view.proofs.unescaping.unescape_as.Statement.{statement}
 use Rattle.comment_view.proofs.unescaping.unescape_as.Tie as tie
-use Rattle.comment_view.proofs.unescaping.unescape_as.Reads as reads
-use Rattle.comment_view.proofs.unescaping.unescape_as.Lts as lts
-use Rattle.comment_parser.proofs.ParserState.unescape_label.Reads as unescape-label-reads
-use Rattle.comment_parser.proofs.ParserState.unescape_math.Reads as unescape-math-reads
-use Rattle.comment_parser.proofs.ParserState.unescape_text.Reads as unescape-text-reads
 
 enum-told : tie.Need-enum-told
 enum-told c = search needs

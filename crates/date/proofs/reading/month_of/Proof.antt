@@ -19,8 +19,8 @@ loop-holds : tie.Need-loop-holds Inv-loop μ-loop
 unfolding monthOf
 loop-holds c = (omega arith, (omega arith, refl))
 
-is-name-requires : tie.Need-is-name-requires Inv-loop μ-loop
-is-name-requires c κs = search needs
+is-month-name-requires : tie.Need-is-month-name-requires Inv-loop μ-loop
+is-month-name-requires c κs = search needs
 
 cast-t7 : tie.Need-cast-t7 Inv-loop μ-loop
 cast-t7 c = omega arith
@@ -29,7 +29,7 @@ returns : tie.Need-returns Inv-loop μ-loop
 returns c =
     let a = c .before .before .before .before .args in
     let l = c .before .before .before .loop in
-    let named = sym (c .before .is-name .ensures) ∙ c .if1 .taken in
+    let named = sym (c .before .is-month-name .ensures) ∙ c .if1 .taken in
     sym (month-found (l .m) (a .a) (a .b) (a .c) (c .before .before .loop-test .taken) named) ∙ l .inv .1 .1
 
 add-m : tie.Need-add-m Inv-loop μ-loop
@@ -42,7 +42,7 @@ loop-again : tie.Need-loop-again Inv-loop μ-loop
 loop-again c =
     let a = c .before .before .before .before .args in
     let l = c .before .before .before .loop in
-    let other = sym (c .before .is-name .ensures) ∙ c .if1 .left in
+    let other = sym (c .before .is-month-name .ensures) ∙ c .if1 .left in
     (omega arith, (omega arith, sym (month-next (l .m) (a .a) (a .b) (a .c) (c .before .before .loop-test .taken) other) ∙ l .inv .1 .1))
 
 returns-2 : tie.Need-returns-2 Inv-loop μ-loop
@@ -58,7 +58,7 @@ month-of-spec =
     Inv-loop
     μ-loop
     loop-holds
-    is-name-requires
+    is-month-name-requires
     cast-t7
     returns
     add-m

@@ -2,9 +2,6 @@ use Rattle.scans.specs.Ends.{htmlMark}
 use borrow.Author.Needs.{needs}
 use Rattle.scans.proofs.labels.html_mark.Statement.{statement}
 use Rattle.scans.proofs.labels.html_mark.Tie as tie
-use Rattle.scans.proofs.labels.html_mark.Reads as reads
-use Rattle.scans.proofs.labels.html_mark.Lts as lts
-use Rattle.look.proofs.word_at.Reads as word-at-reads
 
 slice-aggregate-word-at : tie.Need-slice-aggregate-word-at
 slice-aggregate-word-at c = search needs

@@ -2,8 +2,6 @@ use mathlib.Core.Path.{refl}
 use Rattle.scans.specs.Plain.{isLabelMark}
 use Rattle.scans.proofs.labels.is_label_mark.Statement.{statement}
 use Rattle.scans.proofs.labels.is_label_mark.Tie as tie
-use Rattle.scans.proofs.labels.is_label_mark.Reads as reads
-use Rattle.scans.proofs.labels.is_label_mark.Lts as lts
 
 returns : tie.Need-returns
 unfolding isLabelMark

@@ -2,9 +2,6 @@ use Rattle.scans.specs.Ends.{isUrl}
 use borrow.Author.Needs.{needs}
 use Rattle.scans.proofs.labels.is_url.Statement.{statement}
 use Rattle.scans.proofs.labels.is_url.Tie as tie
-use Rattle.scans.proofs.labels.is_url.Reads as reads
-use Rattle.scans.proofs.labels.is_url.Lts as lts
-use Rattle.look.proofs.word_at.Reads as word-at-reads
 
 slice-aggregate-word-at : tie.Need-slice-aggregate-word-at
 slice-aggregate-word-at c = search needs

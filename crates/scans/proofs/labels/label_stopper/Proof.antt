@@ -1,5 +1,4 @@
 use borrow.Author.Needs.{needs}
-use mathlib.Core.Bool.{_||_}
 use Rattle.scans.specs.Ends.{labelStopper}
 use Rattle.scans.proofs.labels.label_stopper.Statement.{statement}
 use Rattle.scans.proofs.labels.label_stopper.Tie as tie

@@ -6,8 +6,6 @@ use Rattle.scans.specs.Plain.{Lacks}
 use Rattle.scans.proofs.PlainLaws.{lacks-more}
 use Rattle.scans.proofs.plain.byte_in_8.Statement.{statement}
 use Rattle.scans.proofs.plain.byte_in_8.Tie as tie
-use Rattle.scans.proofs.plain.byte_in_8.Reads as reads
-use Rattle.scans.proofs.plain.byte_in_8.Lts as lts
 
 abbrev Inv-loop : tie.InvT-loop
 Inv-loop text i b found₀ k₀ found k = (k ≤ 8) × (found ≡ false → Lacks text i k b)

@@ -1,12 +1,9 @@
 use native.Mathlib.Omega.{arith}
 use borrow.Author.Tests.{ne-eqb}
-use mathlib.Core.Path.{refl, sym}
 use Rattle.scans.specs.Plain.{isMark}
 use Rattle.scans.proofs.Laws.{or-false}
 use Rattle.scans.proofs.plain.is_mark.Statement.{statement}
 use Rattle.scans.proofs.plain.is_mark.Tie as tie
-use Rattle.scans.proofs.plain.is_mark.Reads as reads
-use Rattle.scans.proofs.plain.is_mark.Lts as lts
 
 returns : tie.Need-returns
 unfolding isMark

@@ -6,9 +6,6 @@ use Rattle.scans.proofs.Laws.{clash}
 use borrow.Author.Needs.{needs}
 use Rattle.scans.proofs.plain.plain_8.Statement.{statement}
 use Rattle.scans.proofs.plain.plain_8.Tie as tie
-use Rattle.scans.proofs.plain.plain_8.Reads as reads
-use Rattle.scans.proofs.plain.plain_8.Lts as lts
-use Rattle.scans.proofs.plain.byte_in_8.Reads as byte-in-8-reads
 
 returns : tie.Need-returns
 returns c = λ h. clash refl h

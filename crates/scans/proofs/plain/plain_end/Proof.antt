@@ -8,10 +8,6 @@ use Rattle.scans.proofs.Laws.{scan-end, scan-one, scan-stop}
 use Rattle.scans.proofs.PlainLaws.{over-8, mark-not, plain-one, mark-stop}
 use Rattle.scans.proofs.plain.plain_end.Statement.{statement}
 use Rattle.scans.proofs.plain.plain_end.Tie as tie
-use Rattle.scans.proofs.plain.plain_end.Reads as reads
-use Rattle.scans.proofs.plain.plain_end.Lts as lts
-use Rattle.scans.proofs.plain.is_mark.Reads as is-mark-reads
-use Rattle.scans.proofs.plain.plain_8.Reads as plain-8-reads
 
 abbrev Inv-loop : tie.InvT-loop
 Inv-loop text from i₀ i = plainEnd text from ≡ plainEnd text i
