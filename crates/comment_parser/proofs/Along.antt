@@ -39,10 +39,10 @@ along-starts buf start end note z = record { reached = fresh-reached start end; 
 
 -- an answer that is no event, told by its tag, as where a `let .. else` takes the else
 no-event : (n : Next) → OneOf (1 ∷ 2 ∷ []) (tagOf the-type n) → paired (stepAnswer n .event) (stepAnswer n .state) ≡ none
-no-event (Event i t) (inl e) = absurd (omega (arith, e))
-no-event (Event i t) (inr e) = absurd (omega (arith, e))
+no-event (Event t i) (inl e) = absurd (omega (arith, e))
+no-event (Event t i) (inr e) = absurd (omega (arith, e))
 no-event (End t) h = refl
-no-event (Refused r t) h = refl
+no-event (Refused t r) h = refl
 
 -- what `next_noted` promises of its answer
 module _ {buf : List ℕ} {st : ParserState} {note : Note} {r : NextNoted} (a : Along buf st note)
@@ -55,9 +55,9 @@ module _ {buf : List ℕ} {st : ParserState} {note : Note} {r : NextNoted} (a : 
   along-end k = along-seen (r .next) refl ∙ no-event (r .next) k
 
   -- an event: it is seen, less is to come, its numbers fit a word, and the way goes on from the state after it
-  module _ {i : CommentItem} {t : ParserState} (e : r .next ≡ Event i t) where
+  module _ {i : CommentItem} {t : ParserState} (e : r .next ≡ Event t i) where
     pub along-event : seen rust buf st ≡ some (i, t)
-    along-event = along-seen (Event i t) e
+    along-event = along-seen (Event t i) e
 
     pub along-less : GoesOn st t
     along-less = seen-on rust buf st (i, t) along-event

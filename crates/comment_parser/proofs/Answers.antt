@@ -21,22 +21,22 @@ use Rattle.comment_parser.specs.declared.Next.the-variants.{Event, End, 
 
 -- an outcome read back from its answer
 given : Option CommentItem → ParserState → Next
-given (some i) t = Event i t
+given (some i) t = Event t i
 given none t = End t
 
 stepBack : Step → Next
-stepBack s = cond (eqb (s .answer .number) 0) (given (s .event) (s .state)) (Refused (refusalBack (s .answer)) (s .state))
+stepBack s = cond (eqb (s .answer .number) 0) (given (s .event) (s .state)) (Refused (s .state) (refusalBack (s .answer)))
 
 step-back : (n : Next) → stepBack (stepAnswer n) ≡ n
 unfolding stepBack given
-step-back (Event i t) = refl
+step-back (Event t i) = refl
 step-back (End t) = refl
-step-back (Refused TooLong t) = ap (λ (r : Refusal). Refused r t) (refusal-back TooLong)
-step-back (Refused BadSpan t) = ap (λ (r : Refusal). Refused r t) (refusal-back BadSpan)
-step-back (Refused BadState t) = ap (λ (r : Refusal). Refused r t) (refusal-back BadState)
-step-back (Refused (BadTable table entry) t) = ap (λ (r : Refusal). Refused r t) (refusal-back (BadTable table entry))
-step-back (Refused NoDate t) = ap (λ (r : Refusal). Refused r t) (refusal-back NoDate)
-step-back (Refused BadMonth t) = ap (λ (r : Refusal). Refused r t) (refusal-back BadMonth)
+step-back (Refused t TooLong) = ap (λ (r : Refusal). Refused t r) (refusal-back TooLong)
+step-back (Refused t BadSpan) = ap (λ (r : Refusal). Refused t r) (refusal-back BadSpan)
+step-back (Refused t BadState) = ap (λ (r : Refusal). Refused t r) (refusal-back BadState)
+step-back (Refused t (BadTable table entry)) = ap (λ (r : Refusal). Refused t r) (refusal-back (BadTable table entry))
+step-back (Refused t NoDate) = ap (λ (r : Refusal). Refused t r) (refusal-back NoDate)
+step-back (Refused t BadMonth) = ap (λ (r : Refusal). Refused t r) (refusal-back BadMonth)
 
 pub next-one : (s : Step) (x y : Next) → stepAnswer x ≡ s → stepAnswer y ≡ s → x ≡ y
 next-one = coincide stepAnswer stepBack step-back

@@ -51,15 +51,15 @@ module _ (rd : Reading) (buf : List ℕ) (st : ParserState) where
   seen-is a = rw (next-is a)
 
   -- the answer to an accepted state that gives an event
-  pub seen-event : (i : CommentItem) (t : ParserState) → Accepted buf st → answered rd buf st ≡ Event i t → seen rd buf st ≡ some (i, t)
+  pub seen-event : (i : CommentItem) (t : ParserState) → Accepted buf st → answered rd buf st ≡ Event t i → seen rd buf st ≡ some (i, t)
   seen-event i t a e = seen-is a ∙ rw e
 
-  from-next : (n : Next) → answered rd buf st ≡ n → (p : CommentItem × ParserState) → paired (stepAnswer n .event) (stepAnswer n .state) ≡ some p → answered rd buf st ≡ Event (p .0) (p .1)
-  from-next (Event i t) e p h = e ∙ (let x : (i, t) ≡ p = cc in rw (← x))
+  from-next : (n : Next) → answered rd buf st ≡ n → (p : CommentItem × ParserState) → paired (stepAnswer n .event) (stepAnswer n .state) ≡ some p → answered rd buf st ≡ Event (p .1) (p .0)
+  from-next (Event t i) e p h = e ∙ (let x : (i, t) ≡ p = cc in rw (← x))
   from-next (End t) e p h = let z : _≡_ {A = ℕ} 0 1 = cc in absurd (omega arith)
-  from-next (Refused r t) e p h = let z : _≡_ {A = ℕ} 0 1 = cc in absurd (omega arith)
+  from-next (Refused t r) e p h = let z : _≡_ {A = ℕ} 0 1 = cc in absurd (omega arith)
 
-  pub seen-answered : (p : CommentItem × ParserState) → seen rd buf st ≡ some p → answered rd buf st ≡ Event (p .0) (p .1)
+  pub seen-answered : (p : CommentItem × ParserState) → seen rd buf st ≡ some p → answered rd buf st ≡ Event (p .1) (p .0)
   seen-answered p h = from-next (answered rd buf st) refl p (sym (seen-is (seen-accepted p h)) ∙ h)
 
   -- an event keeps the end, moves on, and leaves less to come

@@ -149,9 +149,9 @@ abbrev pub given : ParserState → ℕ
 given st = givenTo (st .pos) (st .waiting)
 
 abbrev InOrder : ℕ → Next → Type 0
-InOrder low (Event i t) = Within low (given t) (placedOf i)
+InOrder low (Event t i) = Within low (given t) (placedOf i)
 InOrder low (End t) = Unit
-InOrder low (Refused r t) = Unit
+InOrder low (Refused t r) = Unit
 
 given-ge : (low high : ℕ) (w : Waiting) → low ≤ high → Waits low high w → low ≤ givenTo high w
 given-ge low high (Item i) h k = k .above
@@ -161,19 +161,19 @@ give-in-order : (u : ParserState) (low : ℕ) → low ≤ given u → Waits 0 (u
 unfolding give
 give-in-order u low = go (u .waiting)
   where
-    go : (w : Waiting) → low ≤ givenTo (u .pos) w → Waits 0 (u .pos) w → InOrder low (elim w [ Item i ↦ Event i (moved u (u .pos) Nothing) | Nothing ↦ End u ])
+    go : (w : Waiting) → low ≤ givenTo (u .pos) w → Waits 0 (u .pos) w → InOrder low (elim w [ Item i ↦ Event (moved u (u .pos) Nothing) i | Nothing ↦ End u ])
     go (Item i) h k = record { above = h; placed = k .placed; ordered = k .ordered; below = k .below }
     go Nothing h k = tt
 
 -- a run, and what ended it
 run-given : (s : List ℕ) (st : ParserState) (low from q : ℕ) (t : ParserState) → low ≤ from → from ≤ q → After s st from q t
-    → InOrder low (elim (ltb from q) [ true ↦ Event (runItem st from q) t | false ↦ give t ])
+    → InOrder low (elim (ltb from q) [ true ↦ Event t (runItem st from q) | false ↦ give t ])
 run-given s st low from q t h l a = go (ltb from q) refl
   where
     on : q ≤ given t
     on = given-ge q (t .pos) (t .waiting) (a .past-run) (a .waits)
 
-    go : (b : Bool) → ltb from q ≡ b → InOrder low (elim b [ true ↦ Event (runItem st from q) t | false ↦ give t ])
+    go : (b : Bool) → ltb from q ≡ b → InOrder low (elim b [ true ↦ Event t (runItem st from q) | false ↦ give t ])
     go true e = run-in-order st low from q (given t) h (omega (arith, ltb-true from q e)) on
     go false e = give-in-order t low (omega (arith, on, h, l)) (from-zero q (t .pos) (t .waiting) (a .waits))
 

@@ -258,11 +258,11 @@ pub record GoesOn (st t : ParserState) : Type 0 where
   pub within : t .pos ≤ t .end
   pub less : left t < left st
 
-give-cases : (w : Waiting) (u : ParserState) (i : CommentItem) (t : ParserState) → elim w [ Item j ↦ Event j (moved u (u .pos) Nothing) | Nothing ↦ End u ] ≡ Event i t → (w ≡ Item i) × (t ≡ moved u (u .pos) Nothing)
+give-cases : (w : Waiting) (u : ParserState) (i : CommentItem) (t : ParserState) → elim w [ Item j ↦ Event (moved u (u .pos) Nothing) j | Nothing ↦ End u ] ≡ Event t i → (w ≡ Item i) × (t ≡ moved u (u .pos) Nothing)
 give-cases (Item j) u i t p = (cc, cc)
 give-cases Nothing u i t p = let z : _≡_ {A = ℕ} 0 1 = cc in absurd (let y : ⊥ = omega arith in y)
 
-given : (u : ParserState) (i : CommentItem) (t : ParserState) → give u ≡ Event i t → (u .waiting ≡ Item i) × (t ≡ moved u (u .pos) Nothing)
+given : (u : ParserState) (i : CommentItem) (t : ParserState) → give u ≡ Event t i → (u .waiting ≡ Item i) × (t ≡ moved u (u .pos) Nothing)
 unfolding give
 given u i t p = give-cases (u .waiting) u i t p
 
@@ -298,24 +298,24 @@ module _ (s : List ℕ) (st : ParserState) (whole : length s ≡ st .end) (from 
       let o : from < u .pos = ⊎-elim (λ (x : from < u .pos). x) (λ (x : u .waiting ≡ Nothing). absurd (no-item (u .waiting) i k x)) (a .on) in
       record { same-end = e; within = omega arith; less = omega arith }
 
-read-goes-on : (rd : Reading) (s : List ℕ) (st : ParserState) → length s ≡ st .end → st .pos ≤ st .end → (i : CommentItem) (t : ParserState) → readOn rd s st ≡ Event i t → GoesOn st t
+read-goes-on : (rd : Reading) (s : List ℕ) (st : ParserState) → length s ≡ st .end → st .pos ≤ st .end → (i : CommentItem) (t : ParserState) → readOn rd s st ≡ Event t i → GoesOn st t
 unfolding readOn
 read-goes-on rd s st whole h i t =
     let from = runStart s st in
     let r = pass rd s st from in
     let a : After s st from (r .end) (r .after) = pass-after rd s st from (run-start-le s st (omega arith)) in
     let g : st .pos ≤ from = run-start-ge s st (omega arith) in
-    split (ltb from (r .end)) _ _ (Event i t) (GoesOn st t)
+    split (ltb from (r .end)) _ _ (Event t i) (GoesOn st t)
     (λ b p. let z : t ≡ r .after = cc in rw z (after-text s st whole from g (r .end) (r .after) (ltb-true from (r .end) b) a))
     (λ b p. let z = given (r .after) i t p in rw (z .1) (after-mark s st whole from g (r .end) (r .after) i (z .0) a))
 
 answered-cases : (rd : Reading) (buf : List ℕ) (st : ParserState) → st .pos ≤ st .end → st .end ≤ length buf → (i : CommentItem) (t : ParserState) (w : Waiting) → st .waiting ≡ w
-    → elim w [ Item j ↦ give st | Nothing ↦ readOn rd (take (st .end) buf) st ] ≡ Event i t → GoesOn st t
+    → elim w [ Item j ↦ give st | Nothing ↦ readOn rd (take (st .end) buf) st ] ≡ Event t i → GoesOn st t
 answered-cases rd buf st h k i t (Item j) e p =
     let z = given st i t p in
     rw (z .1) (record { same-end = refl; within = h; less = rw e (omega arith) })
 answered-cases rd buf st h k i t Nothing e p = read-goes-on rd (take (st .end) buf) st (length-take-le (st .end) buf k) h i t p
 
-pub answered-on : (rd : Reading) (buf : List ℕ) (st : ParserState) → st .pos ≤ st .end → st .end ≤ length buf → (i : CommentItem) (t : ParserState) → answered rd buf st ≡ Event i t → GoesOn st t
+pub answered-on : (rd : Reading) (buf : List ℕ) (st : ParserState) → st .pos ≤ st .end → st .end ≤ length buf → (i : CommentItem) (t : ParserState) → answered rd buf st ≡ Event t i → GoesOn st t
 unfolding answered
 answered-on rd buf st h k i t p = answered-cases rd buf st h k i t (st .waiting) refl p

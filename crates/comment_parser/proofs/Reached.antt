@@ -37,9 +37,9 @@ pub record Lies (i : CommentItem) (t : ParserState) : Type 0 where
   pub reached : Reached t
 
 abbrev LiesIf : Next → Type 0
-LiesIf (Event i t) = Lies i t
+LiesIf (Event t i) = Lies i t
 LiesIf (End t) = Unit
-LiesIf (Refused r t) = Unit
+LiesIf (Refused t r) = Unit
 
 pub from-zero : (low high : ℕ) (w : Waiting) → Waits low high w → Waits 0 high w
 from-zero low high (Item i) h = record { above = omega arith; placed = h .placed; ordered = h .ordered; below = h .below }
@@ -58,15 +58,15 @@ give-lies : (u : ParserState) → Reached u → LiesIf (give u)
 unfolding give
 give-lies u = go (u .waiting)
   where
-    go : (w : Waiting) → Waits 0 (u .pos) w → LiesIf (elim w [ Item i ↦ Event i (moved u (u .pos) Nothing) | Nothing ↦ End u ])
+    go : (w : Waiting) → Waits 0 (u .pos) w → LiesIf (elim w [ Item i ↦ Event (moved u (u .pos) Nothing) i | Nothing ↦ End u ])
     go (Item i) h = record { within = h; reached = tt }
     go Nothing h = tt
 
 -- a run and what ended it
-run-lies : (s : List ℕ) (st : ParserState) (from q : ℕ) (t : ParserState) → After s st from q t → LiesIf (elim (ltb from q) [ true ↦ Event (runItem st from q) t | false ↦ give t ])
+run-lies : (s : List ℕ) (st : ParserState) (from q : ℕ) (t : ParserState) → After s st from q t → LiesIf (elim (ltb from q) [ true ↦ Event t (runItem st from q) | false ↦ give t ])
 run-lies s st from q t a = go (ltb from q) refl
   where
-    go : (b : Bool) → ltb from q ≡ b → LiesIf (elim b [ true ↦ Event (runItem st from q) t | false ↦ give t ])
+    go : (b : Bool) → ltb from q ≡ b → LiesIf (elim b [ true ↦ Event t (runItem st from q) | false ↦ give t ])
     go true e = record { within = run-in-order st 0 from q (t .pos) (omega arith) (omega (arith, ltb-true from q e)) (a .past-run); reached = from-zero q (t .pos) (t .waiting) (a .waits) }
     go false e = give-lies t (from-zero q (t .pos) (t .waiting) (a .waits))
 

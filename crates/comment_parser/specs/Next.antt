@@ -22,20 +22,20 @@ pub record Step : Type 0 where
   pub state : ParserState
 
 abbrev pub stepAnswer : Next → Step
-stepAnswer (Event i t) = record { answer = bare 0; event = some i; state = t }
+stepAnswer (Event t i) = record { answer = bare 0; event = some i; state = t }
 stepAnswer (End t) = record { answer = bare 0; event = none; state = t }
-stepAnswer (Refused r t) = record { answer = refusalAnswer r; event = none; state = t }
+stepAnswer (Refused t r) = record { answer = refusalAnswer r; event = none; state = t }
 
 -- gives what waits, or ends
 unfoldable pub give : ParserState → Next
-give t = elim (t .waiting) [ Item i ↦ Event i (moved t (t .pos) Nothing) | Nothing ↦ End t ]
+give t = elim (t .waiting) [ Item i ↦ Event (moved t (t .pos) Nothing) i | Nothing ↦ End t ]
 
 -- the run, if it is not empty, and then at most one further event
 unfoldable pub readOn : Reading → List ℕ → ParserState → Next
 readOn rd s st =
     let from = runStart s st in
     let r = pass rd s st from in
-    elim (ltb from (r .end)) [ true ↦ Event (runItem st from (r .end)) (r .after) | false ↦ give (r .after) ]
+    elim (ltb from (r .end)) [ true ↦ Event (r .after) (runItem st from (r .end)) | false ↦ give (r .after) ]
 
 -- what waits is given first; the reader looks at the buffer up to the state's end
 unfoldable pub answered : Reading → List ℕ → ParserState → Next

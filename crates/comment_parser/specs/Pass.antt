@@ -8,7 +8,7 @@ use Rattle.byte_rules.specs.Reading.{Reading}
 use Rattle.scans.specs.Scan.{scan}
 use Rattle.scans.specs.Ends.{blanksEnd}
 use Rattle.scans.specs.declared.Step.{Step}
-use Rattle.scans.specs.declared.Step.the-variants.{Stop}
+use Rattle.scans.specs.declared.Step.the-variants.{One as StepOne, Two as StepTwo, Stop}
 use Rattle.comment_parser.specs.Item.{span}
 use Rattle.comment_parser.specs.State.{moved}
 use Rattle.comment_parser.specs.Rules.{passAct}

@@ -207,10 +207,11 @@ pub struct Run {
     pub after: ParserState,
 }
 
+// An answer of `next`: the state after it first, which so lies at one place in each, and then what is given.
 pub enum Next {
-    Event(CommentItem, ParserState),
+    Event(ParserState, CommentItem),
     End(ParserState),
-    Refused(Refusal, ParserState),
+    Refused(ParserState, Refusal),
 }
 
 // A run, and the note as it stands after it.
@@ -296,7 +297,7 @@ impl ParserState {
         let pos = self.pos;
         if let Checked::Refused(why) = check_state(buf.len(), pos, end) {
             return NextNoted {
-                next: Next::Refused(why, self),
+                next: Next::Refused(self, why),
                 note,
             };
         }
@@ -327,7 +328,7 @@ fn give(st: ParserState) -> Next
     let waiting = st.waiting;
     let pos = st.pos;
     match waiting {
-        Waiting::Item(item) => Next::Event(item, st.moved(pos, Waiting::Nothing)),
+        Waiting::Item(item) => Next::Event(st.moved(pos, Waiting::Nothing), item),
         Waiting::Nothing => Next::End(st),
     }
 }

@@ -116,7 +116,7 @@ pub(crate) fn read_on(text: &[u8], st: ParserState, note: Note) -> NextNoted
     let after = run.after;
     if from < end {
         NextNoted {
-            next: Next::Event(run_item(st, from, end), after),
+            next: Next::Event(after, run_item(st, from, end)),
             note: later,
         }
     } else {

@@ -37,7 +37,7 @@ fn read_step(state: ParserState, buf: &[u8]) -> Stepped
 {
     let next = state.next(buf);
     match next {
-        Next::Event(item, state) => Stepped {
+        Next::Event(state, item) => Stepped {
             step: Step::Event(item),
             state,
         },
@@ -45,7 +45,7 @@ fn read_step(state: ParserState, buf: &[u8]) -> Stepped
             step: Step::End,
             state,
         },
-        Next::Refused(why, state) => Stepped {
+        Next::Refused(state, why) => Stepped {
             step: Step::Refused(why),
             state,
         },

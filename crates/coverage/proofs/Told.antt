@@ -63,16 +63,16 @@ module _ (buf : List ℕ) (b : ℕ) (st : ParserState) where
   -- what a reading step comes to
   pub data Turn : Next → Type 0 where
     over : {t : ParserState} → Gap buf (st .math) (st .pos) b → Turn (End t)
-    ran : {r q : ℕ} → Gap buf (st .math) (st .pos) r → r < q → Turn (Event (runOf (st .math) r q) (moved st q Nothing))
+    ran : {r q : ℕ} → Gap buf (st .math) (st .pos) r → r < q → Turn (Event (moved st q Nothing) (runOf (st .math) r q))
     marked :
         {q : ℕ} {c : CommentItem} {t : ParserState} → Gap buf (st .math) (st .pos) q → q < t .pos → Mark buf b q (st .math) q c (t .math) (t .pos) →
-        t .waiting ≡ Nothing → Turn (Event c t)
+        t .waiting ≡ Nothing → Turn (Event t c)
     ran-marked :
         {r q : ℕ} {c : CommentItem} {t : ParserState} → Gap buf (st .math) (st .pos) r → r < q → q ≤ t .pos → Mark buf b r (st .math) q c (t .math) (t .pos) →
-        t .waiting ≡ Item c → Turn (Event (runOf (st .math) r q) t)
+        t .waiting ≡ Item c → Turn (Event t (runOf (st .math) r q))
 
   module _ (s : List ℕ) (r q : ℕ) (t : ParserState) (o : After s st r q t) (g : Gap buf (st .math) (st .pos) r) where
-    full : r < q → Passed buf b st r q t → Turn (Event (runItem st r q) t)
+    full : r < q → Passed buf b st r q t → Turn (Event t (runItem st r q))
     full l (inl k) = rw (k .goes-on, run-item st r q) (ran g l)
     full l (inr k) = rw (run-item st r q) (ran-marked g l (o .past-run) (k .marks) (k .waits))
 
@@ -112,10 +112,10 @@ module _ (rd : Reading) (buf : List ℕ) where
   unfolding answered
   reads-on st b w e = reads-cases st (st .waiting) (st .end) b w e
 
-  give-cases : (st : ParserState) (w : Waiting) (c : CommentItem) → w ≡ Item c → elim w [ Item i ↦ Event i (moved st (st .pos) Nothing) | Nothing ↦ End st ] ≡ Event c (moved st (st .pos) Nothing)
+  give-cases : (st : ParserState) (w : Waiting) (c : CommentItem) → w ≡ Item c → elim w [ Item i ↦ Event (moved st (st .pos) Nothing) i | Nothing ↦ End st ] ≡ Event (moved st (st .pos) Nothing) c
   give-cases st w c p = rw p
 
-  give-is : (st : ParserState) (c : CommentItem) → st .waiting ≡ Item c → give st ≡ Event c (moved st (st .pos) Nothing)
+  give-is : (st : ParserState) (c : CommentItem) → st .waiting ≡ Item c → give st ≡ Event (moved st (st .pos) Nothing) c
   unfolding give
   give-is st c w = give-cases st (st .waiting) c w
 
@@ -123,7 +123,7 @@ module _ (rd : Reading) (buf : List ℕ) where
   given-cases w c x y p = rw p
 
   -- what waits is given
-  gives : (st : ParserState) (c : CommentItem) → st .waiting ≡ Item c → answered rd buf st ≡ Event c (moved st (st .pos) Nothing)
+  gives : (st : ParserState) (c : CommentItem) → st .waiting ≡ Item c → answered rd buf st ≡ Event (moved st (st .pos) Nothing) c
   unfolding answered
   gives st c w = given-cases (st .waiting) c (give st) _ w ∙ give-is st c w
 

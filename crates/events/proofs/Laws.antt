@@ -47,7 +47,7 @@ module _ {buf : List ℕ} {start end : ℕ} {out₀ out : List ℕ} {st : Parser
   -- a turn: an event's record was laid in the tail, and `last` is the tail since
   pub going-on :
       {r : NextNoted} → (Holds (take (st .end) buf) note → Answers (take (st .end) buf) (nextOf rust buf st) r)
-      → {i : CommentItem} {t : ParserState} → r .next ≡ Event i t
+      → {i : CommentItem} {t : ParserState} → r .next ≡ Event t i
       → {w : Wrote} → w ≡ wroteOf eventWidth (eventRecord buf i ∷ []) (length (tail at out))
       → {last : List ℕ} → last ≡ laid eventWidth (eventRecord buf i ∷ []) (tail at out)
       → (at + w .words ≤ length out) × Going buf start end out₀ (back at out last) t (r .note) (at + w .words) (n + w .count)

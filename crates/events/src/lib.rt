@@ -46,7 +46,7 @@ pub fn events(buf: &[u8], start: usize, end: usize, out: &mut [u32]) -> Filled
         let noted = st.next_noted(buf, note);
         let next = noted.next;
         let later = noted.note;
-        let Next::Event(item, after) = next else {
+        let Next::Event(after, item) = next else {
             break;
         };
         let wrote = lay_event(&mut out[at..], item);

@@ -63,7 +63,7 @@ fn write_events(comment: &[u8]) -> bool {
         let noted = st.next_noted(comment, note);
         let next = noted.next;
         let later = noted.note;
-        let Next::Event(item, after) = next else {
+        let Next::Event(after, item) = next else {
             return true;
         };
         if write_line(item) {

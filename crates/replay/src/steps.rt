@@ -34,7 +34,7 @@ fn walk(from: ParserState, buf: &[u8], most: u32) -> Walked {
     let mut count: u32 = 0;
     while count < most {
         match state.next(buf) {
-            Next::Event(_, after) => {
+            Next::Event(after, _) => {
                 state = after;
                 count += 1;
             }
@@ -46,7 +46,7 @@ fn walk(from: ParserState, buf: &[u8], most: u32) -> Walked {
                     state: after,
                 };
             }
-            Next::Refused(why, after) => {
+            Next::Refused(after, why) => {
                 return Walked {
                     answer: number_of(why),
                     count,
@@ -86,7 +86,7 @@ fn emit_events(out: &mut [u8], at: usize, from: ParserState, buf: &[u8], count: 
     let mut state = from;
     let mut i: u32 = 0;
     while i < count {
-        let Next::Event(item, after) = state.next(buf) else {
+        let Next::Event(after, item) = state.next(buf) else {
             return to;
         };
         to = emit_event(out, to, item);

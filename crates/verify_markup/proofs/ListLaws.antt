@@ -144,7 +144,7 @@ module _ {n : Names} {buf : List ℕ} {start end : ℕ} {out₀ out : List ℕ} 
   -- a turn: an event's records were laid in the tail, and `last` is the tail since
   pub going-on :
       (r : NextNoted) → (Holds (take (st .end) buf) note → Answers (take (st .end) buf) (nextOf rust buf st) r)
-      → (i : CommentItem) (t : ParserState) → r .next ≡ Event i t
+      → (i : CommentItem) (t : ParserState) → r .next ≡ Event t i
       → (html : Bool) → html ≡ isOpen (m .html)
       → (w : Wrote) (last : List ℕ) → w ≡ wroteOf diagWidth (itemDiags buf n html i) (length (tail at out)) → last ≡ laid diagWidth (itemDiags buf n html i) (tail at out)
       → (at + w .words ≤ length out) × Going n buf start end out₀ (back at out last) t (r .note) (modesAfter m i) (at + w .words) (k + w .count)
@@ -171,7 +171,7 @@ module _ {n : Names} {buf : List ℕ} {start end : ℕ} {out₀ out : List ℕ} 
 
   -- an event lies in the buffer
   pub going-item : (r : NextNoted) → (Holds (take (st .end) buf) note → Answers (take (st .end) buf) (nextOf rust buf st) r)
-      → (i : CommentItem) (t : ParserState) → r .next ≡ Event i t → Within 0 (length buf) (placedOf i)
+      → (i : CommentItem) (t : ParserState) → r .next ≡ Event t i → Within 0 (length buf) (placedOf i)
   going-item r says i t e =
       let on = along-event (g .along) says e in
       let lies = seen-lies rust buf st (i, t) on (g .along .reached) .within in

@@ -52,7 +52,7 @@ fn lay_all(
         let noted = st.next_noted(buf, note);
         let next = noted.next;
         let later = noted.note;
-        let Next::Event(item, after) = next else {
+        let Next::Event(after, item) = next else {
             break;
         };
         let html = modes.in_html();

@@ -55,7 +55,9 @@ use Rattle.comment_view.proofs.Stepped.Laws as Z′
 use Rattle.comment_view.proofs.Machine.{val, step-val, of-step, of-state}
 use Rattle.comment_view.proofs.read_step as step
 use Rattle.comment_view.proofs.read_step.Symbol as step-def
+use Rattle.comment_view.proofs.read_step.Symbol.{name as #comment-view·read-step}
 use Rattle.comment_view.proofs.read_step.Met as step-thm
+use Rattle.comment_view.proofs.advance.Key.{name as #comment-view·advance}
 use Rattle.comment_view.proofs.advance as advance
 use Rattle.comment_view.proofs.advance.Statement as stated
 use Rattle.comment_view.proofs.advance.Code as code

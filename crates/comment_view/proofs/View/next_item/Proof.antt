@@ -62,7 +62,9 @@ use Rattle.comment_view.proofs.Machine.{val, step-val, again-step}
 use Rattle.comment_view.proofs.Lent.{state-in, state-out}
 use Rattle.comment_view.proofs.advance as advance
 use Rattle.comment_view.proofs.advance.Symbol as advance-def
+use Rattle.comment_view.proofs.advance.Symbol.{name as #comment-view·advance}
 use Rattle.comment_view.proofs.advance.Met as advance-thm
+use Rattle.comment_view.proofs.View.next_item.Key.{name as #comment-view·next-item}
 use Rattle.comment_view.proofs.View.next_item as next-item
 use Rattle.comment_view.proofs.View.next_item.Statement as stated
 use Rattle.comment_view.proofs.View.next_item.Code as code

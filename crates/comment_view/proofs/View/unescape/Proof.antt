@@ -61,7 +61,9 @@ use Rattle.comment_view.proofs.unescaping.Form.Laws as F′
 use Rattle.comment_view.proofs.Machine.{val}
 use Rattle.comment_view.proofs.unescaping.unescape_as as as-form
 use Rattle.comment_view.proofs.unescaping.unescape_as.Symbol as as-form-def
+use Rattle.comment_view.proofs.unescaping.unescape_as.Symbol.{name as #comment-view·unescape-as}
 use Rattle.comment_view.proofs.unescaping.unescape_as.Met as as-form-thm
+use Rattle.comment_view.proofs.View.unescape.Key.{name as #comment-view·unescape}
 use Rattle.comment_view.proofs.View.unescape as unescape
 use Rattle.comment_view.proofs.View.unescape.Statement as stated
 use Rattle.comment_view.proofs.View.unescape.Code as code
