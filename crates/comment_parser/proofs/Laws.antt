@@ -12,7 +12,7 @@ use Rattle.look.specs.Look.{byteAt, blankAt}
 use Rattle.scans.specs.Marks.{lf}
 use Rattle.scans.specs.Plain.{markAt, plainStep, plainEnd}
 use Rattle.scans.specs.Scan.{scan}
-use Rattle.scans.specs.declared.Step.the-variants.{One as StepOne, Two as StepTwo, Stop}
+use Rattle.scans.specs.declared.Step.the-variants.{One as StepOne}
 use Rattle.scans.proofs.Laws.{by-less, scan-over, scan-le, scan-end}
 use Rattle.scans.proofs.PlainLaws.{mark-free, plain-passed}
 use Rattle.comment_parser.specs.State.{moved}

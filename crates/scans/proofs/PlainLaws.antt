@@ -1,9 +1,10 @@
 -- Plain bytes are stepped over: no mark stands at any place that the scan over them passes.
 -- Assumes nothing.
-use Prim.Native.Nat.{ℕ, zero, suc, _+_, _≤_, _<_}
+use Prim.Native.Nat.{ℕ, zero, suc, _+_, _-_, _≤_, _<_}
 use mathlib.Core.Bool.{Bool, true, false, _||_}
-use mathlib.Core.Path.{_≡_, refl, _∙_, sym}
+use mathlib.Core.Path.{_≡_, refl, ap, _∙_, sym}
 use mathlib.Core.List.{List}
+use native.Mathlib.Nat.{le-refl}
 use native.Mathlib.Omega.{arith}
 use lib.Dec.{eqb}
 use lib.ListN.{length, getD}
@@ -13,7 +14,7 @@ use Rattle.scans.specs.Marks.{tick, tilde, lbracket, under, less, lf, cr
 use Rattle.scans.specs.Ends.{opensTag, labelStopper, htmlMark, labelStep}
 use Rattle.scans.specs.Plain.{isMark, isLabelMark, markAt, plainStep, plainEnd, Lacks, Plain8}
 use Rattle.scans.specs.declared.Step.the-variants.{One, Stop}
-use Rattle.scans.proofs.Laws.{by-less, clash, scan-one, scan-stop, scan-le, over}
+use Rattle.scans.proofs.Laws.{by-less, clash, scan-one, scan-stop, scan-le, scan-ge, over}
 
 or-left : (a b : Bool) → (a || b) ≡ false → a ≡ false
 or-left true b h = h
@@ -120,3 +121,25 @@ module _ (s : List ℕ) where
 
   pub plain-passed : (i k : ℕ) → i ≤ k → k < plainEnd s i → markAt s k ≡ false
   plain-passed i k a l = plain-from (length s) i (omega arith) k a l
+
+  -- a byte of a run of plain bytes that ends at p
+  module _ (i p : ℕ) (run : p ≡ plainEnd s i) (l : i < p) where
+    pub run-in : i < length s
+    run-in = omega (arith, scan-le (plainStep s) (length s) i)
+
+    pub run-plain : markAt s i ≡ false
+    run-plain = plain-passed i i (le-refl i) (omega arith)
+
+    pub run-on : p ≡ plainEnd s (i + 1)
+    run-on = run ∙ scan-one (plainStep s) (length s) i run-in (plain-one s i run-in run-plain)
+
+  -- what no plain byte changes, a run of them does not change
+  module _ {A : Type 0} (f : ℕ → A) (keeps : (k : ℕ) → k < length s → markAt s k ≡ false → f k ≡ f (k + 1)) where
+    keeps-to : (n i p : ℕ) → p ≡ plainEnd s i → i + n ≡ p → f i ≡ f p
+    keeps-to zero i p run e = let z : i ≡ p = omega arith in ap f z
+    keeps-to (suc n) i p run e =
+        let l : i < p = omega arith in
+        keeps i (run-in i p run l) (run-plain i p run l) ∙ keeps-to n (i + 1) p (run-on i p run l) (omega arith)
+
+    pub run-keeps : (i : ℕ) → i ≤ length s → f i ≡ f (plainEnd s i)
+    run-keeps i h = keeps-to (plainEnd s i - i) i (plainEnd s i) refl (omega (arith, scan-ge (plainStep s) (length s) i i (le-refl i) h))

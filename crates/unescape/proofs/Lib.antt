@@ -1,4 +1,4 @@
 -- Laws: what the crates above use of unescaping.
 pub mod Laws
-mod Runs
+pub mod Runs
 mod Writing

@@ -1,5 +1,6 @@
 mod DiagLaws
 mod TextLaws
+mod PlainTexts
 mod ItemLaws
 mod ListLaws
 mod CheckLaws

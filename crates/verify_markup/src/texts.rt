@@ -3,6 +3,7 @@ use crate::laying::lay_if;
 use byte_rules::names::upper;
 use comment_parser::Span;
 use records::Wrote;
+use scans::plain::plain_end;
 use unescape::Escape;
 use unescape::is_escape;
 use unescape::unescape_step;
@@ -36,13 +37,14 @@ fn lone_at(kind: Escape, buf: &[u8], i: usize) -> bool
     }
 }
 
-// 2 at each lone escape byte of the span. Doubling is looked up in the whole buffer.
+// 2 at each lone escape byte of the span. Doubling is looked up in the whole buffer. No escape byte is plain, so plain bytes are stepped over.
 fn lay_lone(kind: Escape, buf: &[u8], start: usize, end: usize, room: &mut [u32]) -> Wrote
     requires { ⌜ InBuf (now buf) start end ⌝ }
     ensures wrote { λ r. ⌜ r ≡ wroteOf diagWidth (loneFrom (now (buf .entry)) kind end (end - start) start) (length (now (room .entry))) ⌝ }
     ensures left { λ r. ⌜ now (room .exit) ≡ laid diagWidth (loneFrom (now (buf .entry)) kind end (end - start) start) (now (room .entry)) ⌝ }
 {
-    let mut i = start;
+    let text = &buf[..end];
+    let mut i = plain_end(text, start);
     let mut at: usize = 0;
     let mut n: usize = 0;
     while i < end {
@@ -50,7 +52,8 @@ fn lay_lone(kind: Escape, buf: &[u8], start: usize, end: usize, room: &mut [u32]
         let wrote = lay_if(lone, buf, 2, i, 0, 0, &mut room[at..]);
         at += wrote.words;
         n += wrote.count;
-        i += unescape_step(kind, buf, i);
+        let on = i + unescape_step(kind, buf, i);
+        i = plain_end(text, on);
     }
     Wrote {
         words: at,
@@ -91,12 +94,12 @@ fn html_len(text: &[u8], i: usize) -> usize
     0
 }
 
-// The first HTML mark from i on; an empty span if there is none.
+// The first HTML mark from i on; an empty span if there is none. It begins with a `<`, so plain bytes are stepped over.
 fn first_html(text: &[u8], from: usize) -> Span
     requires { ⌜ from ≤ length (now text) ⌝ }
     ensures { λ r. ⌜ r ≡ htmlFrom (now (text .entry)) (length (now (text .entry)) - from) from ⌝ }
 {
-    let mut i = from;
+    let mut i = plain_end(text, from);
     while i < text.len() {
         let len = html_len(text, i);
         if len != 0 {
@@ -105,7 +108,7 @@ fn first_html(text: &[u8], from: usize) -> Span
                 end: i + len,
             };
         }
-        i += 1;
+        i = plain_end(text, i + 1);
     }
     Span { start: i, end: i }
 }

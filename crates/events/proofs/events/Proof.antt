@@ -104,7 +104,7 @@ module _ (c : tie.After-lay-event Inv-loop μ-loop) where
       let l = head .loop in
       let w = c .lay-event .result in
       (l .at + w .words ≤ length (l .out))
-      × Going (a .buf .now) (a .start) (a .end) (a .out .now) (back (l .at) (l .out) (c .lay-event .last .0)) (event .next .given .0 .1 .0) (call .next-noted .result .note) (l .at + w .words) (l .n + w .count)
+      × Going (a .buf .now) (a .start) (a .end) (a .out .now) (back (l .at) (l .out) (c .lay-event .last .0)) (event .next .given .0 .0) (call .next-noted .result .note) (l .at + w .words) (l .n + w .count)
 
   turned : Turned
   turned = going-on (head .loop .inv) (call .next-noted .ensures) (event .next .given .1) (c .lay-event .ensures .0) (c .lay-event .ensures .1)

@@ -3,14 +3,17 @@
 use Prim.Native.Nat.{ℕ, _+_, _-_, _≤_, _<_}
 use mathlib.Core.Path.{_≡_}
 use mathlib.Core.List.{List, _∷_}
+use native.Mathlib.Nat.{le-refl}
 use native.Mathlib.Omega.{arith}
 use denote.Ref.{now}
 use lib.ListN.{length, drop, getD}
-use Rattle.scans.specs.Plain.{plainEnd}
+use Rattle.scans.specs.Plain.{plainStep, plainEnd}
+use Rattle.scans.proofs.Laws.{scan-ge}
+use Rattle.scans.proofs.PlainLaws.{run-in, run-plain, run-on}
 use Rattle.unescape.specs.Unescape.{isEscape, unescaped}
 use Rattle.unescape.specs.declared.Escape.{Escape}
 use Rattle.unescape.proofs.Laws.{unescaped-step, unescaped-end, step-some, step-within}
-use Rattle.unescape.proofs.Runs.{run-in, run-byte, run-on, run-ge}
+use Rattle.unescape.proofs.Runs.{plain-first}
 use Rattle.unescape.proofs.Writing.{Writing, writing-starts, writing-long, writing-more, writing-goes, all-written, writing-left}
 use Rattle.unescape.proofs.put_unescaped.Statement.{statement}
 use Rattle.unescape.proofs.put_unescaped.Tie as tie
@@ -46,7 +49,7 @@ loop2-holds c =
     let l = c .before .before in
     let a = l .before .before .before .args in
     let e = c .plain-end .ensures in
-    (λ o w. w, e, omega (arith, e, run-ge (a .kind) (now (a .text)) (l .loop .from) (omega (arith, c .before .loop-test .taken))))
+    (λ o w. w, e, omega (arith, e, scan-ge (plainStep (now (a .text))) (length (now (a .text))) (l .loop .from) (l .loop .from) (le-refl (l .loop .from)) (omega (arith, c .before .loop-test .taken))))
 
 -- where the copying stands
 module _ (c : tie.At-loop2 Inv-loop2 μ-loop2 Inv-loop μ-loop) where
@@ -62,11 +65,11 @@ module _ (c : tie.At-loop2 Inv-loop2 μ-loop2 Inv-loop μ-loop) where
   -- a byte of the run
   module _ (l : c .loop2 .from < c .before .plain-end .result) where
     inside : c .loop2 .from < length (now (start .args .text))
-    inside = run-in (start .args .kind) (now (start .args .text)) (c .loop2 .from) (c .before .plain-end .result) (c .loop2 .inv .1) l
+    inside = run-in (now (start .args .text)) (c .loop2 .from) (c .before .plain-end .result) (c .loop2 .inv .1) l
 
     turn : (o : List ℕ) {out : List ℕ} {n : ℕ} → Wrote (start .args .kind) (now (start .args .text)) (c .loop2 .from) o out n
         → Writing (unescaped (isEscape (start .args .kind)) (now (start .args .text))) (getD (now (start .args .text)) (c .loop2 .from) 0 ∷ unescaped (isEscape (start .args .kind)) (drop (c .loop2 .from + 1) (now (start .args .text)))) o out n
-    turn o w = rw (run-byte (start .args .kind) (now (start .args .text)) (c .loop2 .from) (c .before .plain-end .result) (c .loop2 .inv .1) l) at w
+    turn o w = rw (plain-first (start .args .kind) (now (start .args .text)) (c .loop2 .from) inside (run-plain (now (start .args .text)) (c .loop2 .from) (c .before .plain-end .result) (c .loop2 .inv .1) l)) at w
 
 shared-slice-read-out : tie.Need-shared-slice-read-out Inv-loop2 μ-loop2 Inv-loop μ-loop
 shared-slice-read-out c = inside (c .before .before) (c .before .loop2-test .taken)
@@ -94,7 +97,7 @@ loop2-again c =
     let h = c .before .before in
     let l = c .before .loop2-test .taken in (
       λ o w. writing-goes (turn h l o (h .loop2 .inv .0 o w)),
-      run-on (start h .args .kind) (now (start h .args .text)) (h .loop2 .from) (h .before .plain-end .result) (h .loop2 .inv .1) l,
+      run-on (now (start h .args .text)) (h .loop2 .from) (h .before .plain-end .result) (h .loop2 .inv .1) l,
       omega arith,
     )
 
@@ -143,7 +146,7 @@ loop-less : tie.Need-loop-less Inv-loop2 μ-loop2 Inv-loop μ-loop
 loop-less c =
     let e = at-end (c .before .before .before) in
     let a = start e .args in
-    omega (arith, e .before .plain-end .ensures, run-ge (a .kind) (now (a .text)) (outer e .loop .from) (omega (arith, e .before .before .loop-test .taken)), c .before .before .if1 .left, c .unescape-step .ensures, step-some (isEscape (a .kind)) (now (a .text)) (e .before .plain-end .result))
+    omega (arith, e .before .plain-end .ensures, scan-ge (plainStep (now (a .text))) (length (now (a .text))) (outer e .loop .from) (outer e .loop .from) (le-refl (outer e .loop .from)) (omega (arith, e .before .before .loop-test .taken)), c .before .before .if1 .left, c .unescape-step .ensures, step-some (isEscape (a .kind)) (now (a .text)) (e .before .plain-end .result))
 
 loop-again : tie.Need-loop-again Inv-loop2 μ-loop2 Inv-loop μ-loop
 loop-again c =

@@ -2,12 +2,15 @@
 -- Assumes nothing.
 use Prim.Native.Nat.{ℕ, _+_, _-_, _≤_}
 use mathlib.Core.Path.{_≡_, ap}
+use native.Mathlib.Nat.{le-refl}
 use native.Mathlib.Omega.{arith}
 use denote.Ref.{now}
 use lib.ListN.{length, drop}
+use Rattle.scans.specs.Plain.{plainStep}
+use Rattle.scans.proofs.Laws.{scan-ge}
 use Rattle.unescape.specs.Unescape.{isEscape, unescaped}
 use Rattle.unescape.proofs.Laws.{unescaped-step, unescaped-end, unescaped-length, step-some, step-within}
-use Rattle.unescape.proofs.Runs.{run-ge, run-length}
+use Rattle.unescape.proofs.Runs.{run-length}
 use Rattle.unescape.proofs.unescaped_len.Statement.{statement}
 use Rattle.unescape.proofs.unescaped_len.Tie as tie
 
@@ -37,11 +40,14 @@ module _ (c : tie.After-plain-end Inv-loop μ-loop) where
   abbrev to-come : ℕ → ℕ
   to-come k = length (unescaped (isEscape (args .args .kind)) (drop k (now (args .args .text))))
 
-  past : i ≤ p
-  past = omega (arith, c .plain-end .ensures, run-ge (args .args .kind) (now (args .args .text)) i (omega (arith, c .before .loop-test .taken)))
+  inside : i ≤ length (now (args .args .text))
+  inside = omega (arith, c .before .loop-test .taken)
 
-  run : to-come i ≡ (p - i) + to-come p
-  run = run-length (args .args .kind) (now (args .args .text)) i p (c .plain-end .ensures) past
+  past : i ≤ p
+  past = let s = now (args .args .text) in omega (arith, c .plain-end .ensures, scan-ge (plainStep s) (length s) i i (le-refl i) inside)
+
+  run : i + to-come i ≡ p + to-come p
+  run = run-length (args .args .kind) (now (args .args .text)) i p (c .plain-end .ensures) inside
 
   few : length (unescaped (isEscape (args .args .kind)) (now (args .args .text))) ≤ length (now (args .args .text))
   few = unescaped-length (isEscape (args .args .kind)) (now (args .args .text))
@@ -50,7 +56,7 @@ sub-n : tie.Need-sub-n Inv-loop μ-loop
 sub-n c = past c
 
 add-n : tie.Need-add-n Inv-loop μ-loop
-add-n c = omega (arith, run c, few c, c .before .before .loop .inv)
+add-n c = omega (arith, run c, past c, few c, c .before .before .loop .inv)
 
 returns : tie.Need-returns Inv-loop μ-loop
 returns c =

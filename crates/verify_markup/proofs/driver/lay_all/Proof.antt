@@ -59,7 +59,7 @@ lay-item-requires : tie.Need-lay-item-requires Inv-loop μ-loop
 lay-item-requires c κs =
     let e = c .before .before .before in
     let k = e .before .before .before in
-    (k .before .before .before .before .before .before .before .before .before .before .before .before .pre .short, going-item (k .before .loop .inv) (k .next-noted .result) (k .next-noted .ensures) (e .next .given .0 .0) (e .next .given .0 .1 .0) (e .next .given .1))
+    (k .before .before .before .before .before .before .before .before .before .before .before .before .pre .short, going-item (k .before .loop .inv) (k .next-noted .result) (k .next-noted .ensures) (e .next .given .0 .1 .0) (e .next .given .0 .0) (e .next .given .1))
 
 -- a turn, seen from the place behind the event's records
 module _ (c : tie.After-lay-item Inv-loop μ-loop) where
@@ -70,7 +70,7 @@ module _ (c : tie.After-lay-item Inv-loop μ-loop) where
   call = event .before .before .before
 
   abbrev after : ParserState
-  after = event .next .given .0 .1 .0
+  after = event .next .given .0 .0
 
   abbrev Turned : Type 0
   Turned =
@@ -79,11 +79,11 @@ module _ (c : tie.After-lay-item Inv-loop μ-loop) where
       let w = c .lay-item .result in
       (l .at + w .words ≤ length (l .out))
       × Going (namesBy found (tables (a .sb .now) (a .se .now) (a .lb .now) (a .le .now) (bibliographyOf (a .tags) (a .bb .now) (a .be .now)))) (a .buf .now) (a .start) (a .end) (a .out .now)
-      (back (l .at) (l .out) (c .lay-item .last .1 .1 .1 .1 .1 .1 .1 .1 .1 .1 .0)) after (call .next-noted .result .note) (modesAfter (l .modes) (event .next .given .0 .0)) (l .at + w .words) (l .n + w .count)
+      (back (l .at) (l .out) (c .lay-item .last .1 .1 .1 .1 .1 .1 .1 .1 .1 .1 .0)) after (call .next-noted .result .note) (modesAfter (l .modes) (event .next .given .0 .1 .0)) (l .at + w .words) (l .n + w .count)
 
   turned : Turned
   turned =
-      going-on (call .before .loop .inv) (call .next-noted .result) (call .next-noted .ensures) (event .next .given .0 .0) after (event .next .given .1)
+      going-on (call .before .loop .inv) (call .next-noted .result) (call .next-noted .ensures) (event .next .given .0 .1 .0) after (event .next .given .1)
       (c .before .before .in-html .result) (c .before .before .in-html .ensures) (c .lay-item .result) _ (c .lay-item .ensures .0) (c .lay-item .ensures .1)
 
 add-at : tie.Need-add-at Inv-loop μ-loop
