@@ -1,0 +1,154 @@
+"""page: the text of RESULTS.md from what was counted."""
+
+# The calls that are counted beside the Rust: what each is called here, its op and flag.
+CALLS = [("events", "E", 0), ("parentheticals", "P", 0), ("unescape, Text", "U", 0), ("unescape, Text in HTML", "U", 1),
+         ("unescape, label", "U", 2), ("unescape, math", "U", 3), ("check", "C", 0)]
+# Ours over the Rust's: at most, and the aim.
+GOALS = {("E", 0): (0.5, 0.25), ("P", 0): (0.2, 0.1), ("U", 0): (0.8, 0.4), ("C", 0): (0.8, 0.5)}
+# A third of a second at 400 MHz.
+PAGE = 133_000_000
+# The cost a byte at 65,536 bytes over that at 16,384.
+GROWTH = 1.2
+
+# Each public call (docs/CALLS.md), the C function that stands for it, and what is lent to it: the buffer of the comment, room for
+# the records or text of an op and flag, tables by number, or words.
+BUFFER = "buffer"
+PUBLIC = [
+    ("is_valid_label", "call_is_valid_label", ["the label"]),
+    ("is_reserved_name", "call_is_reserved_name", ["the name"]),
+    ("unescape, unescape_text", "call_unescape_text", [BUFFER, ("U", 0)]),
+    ("unescape_label", "call_unescape_label", [BUFFER, ("U", 2)]),
+    ("unescape_math", "call_unescape_math", [BUFFER, ("U", 3)]),
+    ("ParserState::next", "call_next", [BUFFER]),
+    ("ParserState::unescape_text", "call_own_unescape_text", [BUFFER, ("U", 0)]),
+    ("ParserState::unescape_label", "call_own_unescape_label", [BUFFER, ("U", 2)]),
+    ("ParserState::unescape_math", "call_own_unescape_math", [BUFFER, ("U", 3)]),
+    ("events", "call_events", [BUFFER, ("E", 0)]),
+    ("ParentheticalState::new", "call_parenthetical_new", [BUFFER]),
+    ("ParentheticalState::next", "call_parenthetical_next", [BUFFER]),
+    ("parentheticals", "call_parentheticals", [BUFFER, ("P", 0)]),
+    ("Discouragements::new", "call_discouragements", [BUFFER]),
+    ("lookup, in the labels", "call_lookup", [2, "the name"]),
+    ("verify_markup", "call_verify_markup", [BUFFER, ("C", 0), 1, 2, 3]),
+    ("verify_markup_no_tags", "call_verify_markup_no_tags", [BUFFER, ("C", 0), 1, 2]),
+    ("events_by_view; in it advance, View::open, View::next_item", "call_events_by_view", [BUFFER, ("E", 0)]),
+    ("put_decimal", "call_put_decimal", ["at most 20 bytes of room"]),
+    ("read_date", "call_read_date", ["the date"]),
+    ("write_date", "call_write_date", ["at most 13 bytes of room"]),
+    ("compare", "call_compare", []),
+    ("is_calendar", "call_is_calendar", []),
+]
+WIDTHS = {"E": 16, "P": 28, "C": 16, "U": 1}
+SHOWN = {"\n ": "LF and space", "`a": "`` `a ``"}
+
+
+def table(head, rows):
+    """A table in Markdown; all columns but the first to the right."""
+    rows = [[*row, *[""] * (len(head) - len(row))] for row in rows]
+    lines = [head, ["---"] + ["---:"] * (len(head) - 1), *rows]
+    return "\n".join("| " + " | ".join(map(str, line)) + " |" for line in lines) + "\n"
+
+
+def set_mm(facts):
+    made = []
+    for call, op, flag in CALLS:
+        if op == "C":
+            rust, few, added = facts["check"]
+            ours, written = few + added, []
+        else:
+            rust, ours, *written = facts["rows"][op, flag]
+        most, aim = GOALS.get((op, flag), (None, None))
+        goal = "" if most is None else f"{most} ({aim})"
+        met = "" if most is None else "aim reached" if ours / rust <= aim else "reached" if ours / rust <= most else "**missed**"
+        made.append([call, f"{rust:.2f}", f"{ours:.2f}", f"{ours / rust:.3f}", goal, met, *(part for w in written for part in (f"{w:.2f}", f"{w / rust:.3f}"))])
+    return table(["call", "the Rust", "ours, room 0", "over the Rust's", "at most (aim)", "", "ours, room enough", "over the Rust's"], made)
+
+
+def lent(facts, parts):
+    """What is lent to a call for the largest comment: the sum, and what it is made of."""
+    total, said = 0, []
+    for part in parts:
+        if part == BUFFER:
+            total += facts["largest"]
+            said.append(f"buffer {facts['largest']:,}")
+        elif isinstance(part, tuple):
+            width, count = WIDTHS[part[0]], facts["needed"][part]
+            total += width * count
+            said.append(f"room {count:,}" if width == 1 else f"room {count:,} × {width}")
+        elif isinstance(part, int):
+            total += facts["tables"][part - 1]
+            said.append(f"{['symbols', 'labels', 'bibliography'][part - 1]} {facts['tables'][part - 1]:,}")
+        else:
+            said.append(part)
+    return f"{total:,}" if total else "", ", ".join(said) or "nothing"
+
+
+def stack_rows(facts):
+    return [[f"`{name}`" if " " not in name else name, f"{facts['stacks'][symbol]:,}", *lent(facts, parts)] for name, symbol, parts in PUBLIC]
+
+
+def under(total):
+    return f"{PAGE - total:,} under" if total < PAGE else f"**{total - PAGE:,} over**"
+
+
+def big_rows(big):
+    made = []
+    for room, (e, p, c, t) in big.items():
+        made.append([room, f"{e:,}", f"{p:,}", f"{c:,}", f"{t:,}", f"{e + p + c + t:,}", under(e + p + c + t), f"{PAGE / (e + p + c + t):.1f}"])
+    return made
+
+
+def growth(small, large):
+    """The greatest of the three calls: the cost a byte at four times the length, over that at the length."""
+    return max(l / s / 4 for s, l in zip(small[:3], large[:3]))
+
+
+def square_rows(squares):
+    made = []
+    for pattern, small, large, written in squares:
+        grown = growth(small, large)
+        said = "" if sum(large) < PAGE and sum(written) < PAGE and grown <= GROWTH else "**missed**"
+        made.append([SHOWN.get(pattern, f"`{pattern}`"), *(f"{n:,}" for n in large), f"{sum(large):,}", f"{grown:.3f}", f"{sum(written):,}", said])
+    return made
+
+
+def written(facts):
+    symbols, labels, tags = facts["entries"]
+    squares = facts["squares"]
+    worst = max(max(sum(large), sum(enough)) for _, _, large, enough in squares)
+    grown = max(growth(small, large) for _, small, large, _ in squares)
+    _, few, added = facts["check"]
+    return f"""# Instructions, beside the Rust
+
+Written by `{facts['command']}` on {facts['date']}, with rustc {facts['rustc']} and qemu {facts['qemu']}, on x86-64. Executed x86-64 instructions, counted by qemu-user with `count.c`: exact, and the same at each run
+(but the Rust's check: its tables are hashed with a random key, and its counts move by some thousand).
+
+## All comments of set.mm
+
+{facts['comments']:,} comments, {facts['bytes']:,} bytes. Instructions a byte, net of the same cases with an empty span: so reading the cases is not in it, nor, for the check, the check of the tables.
+The Rust and ours at room 0 are whole programs (the oracle and `replay`). At room 0 ours counts what it would write. The Rust always makes its list or text in memory of its own, so its one figure stands against both of ours.
+Ours with room enough (524,288 words or 65,536 bytes) is the call alone, made from C (`calls.c`), with all records or the text written.
+
+{set_mm(facts)}
+The check: with set.mm's {symbols:,} symbols, {labels:,} labels and a bibliography of {tags} tags. Each of our calls checks the tables anew ({facts['big']['room 0'][3]:,} instructions), too much for as many calls as there are comments. So ours is counted in two parts:
+{few:.2f} a byte on all comments with one label in {facts['few']}, and {added:.2f} that the other labels add, on one comment in {facts['every']} ({facts['sample']:,} of them, {facts['sample_bytes']:,} bytes).
+
+## A page
+
+The largest comment of set.mm before a theorem ({facts['largest']:,} bytes), with the tables above. A third of a second at 400 MHz is {PAGE:,} instructions.
+
+{table(["", "events", "parentheticals", "check", "tables' check", "together", "", "times under"], big_rows(facts["big"]))}
+## No square
+
+65,536 bytes of each, repeated. Growth: the cost a byte over that at 16,384 bytes, the greatest of the three calls, the tables' check apart; at most {GROWTH}. The most of any is {worst:,}: {under(worst)} the page's {PAGE:,}. The greatest growth is {grown:.3f}.
+
+{table(["bytes", "events", "parentheticals", "check", "tables' check", "together", "growth", "room enough, together", ""], square_rows(squares))}
+The Rust's events on the first: {facts['rust_square']:,}.
+
+## Stack and lent bytes
+
+For the largest comment. Stack: the most that the compiled code can take on any input, return address included, arguments that the caller passes on the stack not (`stacks.py`). Lent bytes: all that the caller lends; the work area has 65,536.
+
+{table(["call", "stack", "lent", "of these"], stack_rows(facts))}
+`View::unescape` is `ParserState::unescape_text`, `_label` or `_math`, by its form.
+"""
