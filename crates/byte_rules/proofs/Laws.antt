@@ -2,7 +2,7 @@
 -- Assumes nothing.
 use Prim.Native.Nat.{ℕ, _-_, _≤_, _<_}
 use mathlib.Core.Path.{_≡_, refl}
-use mathlib.Core.Bool.{Bool, true, false, _&&_, _||_, false≢true}
+use mathlib.Core.Bool.{Bool, true, false, cond, _&&_, _||_, false≢true}
 use mathlib.Core.List.{List}
 use native.Mathlib.Omega.{arith}
 use lib.Dec.{leb, eqb}
@@ -10,7 +10,8 @@ use lib.ListN.{length, take, drop, length-drop}
 use lib.Seq.{take-all}
 use native.Mathlib.Nat.{le-refl}
 use borrow.Author.Tests.{le-leb, leb-true, eqb-true, ne-eqb}
-use Rattle.byte_rules.specs.Classes.{isBlank, isDigit, isCapital, isSmall, isCreditSpace}
+use Rattle.byte_rules.specs.Classes.{isBlank, isDigit, isCapital, isSmall, isCreditSpace, isTextEscape, isLabelEscape, isMathEscape}
+use Rattle.byte_rules.specs.Names.{upper}
 use Rattle.byte_rules.specs.Reading.{barsNothing}
 
 -- the part of a text from i on, as the code makes it
@@ -52,6 +53,30 @@ capital-is c h = (leb-true 65 c (both _ _ h .0), leb-true c 90 (both (leb 65 c) 
 pub small-is : (c : ℕ) → isSmall c ≡ true → (97 ≤ c) × (c ≤ 122)
 unfolding isSmall
 small-is c h = (leb-true 97 c (both _ _ h .0), leb-true c 122 (both (leb 97 c) _ h .1))
+
+-- what is none of ` [ ~ is no escape of a label, and what is no _ either is none of a text
+module _ (c : ℕ) (tick : eqb c 96 ≡ false) (bracket : eqb c 91 ≡ false) (tilde : eqb c 126 ≡ false) where
+  pub no-label-escape : isLabelEscape c ≡ false
+  unfolding isLabelEscape
+  no-label-escape = rw (tick, bracket, tilde)
+
+  pub no-text-escape : (html : Bool) → eqb c 95 ≡ false → isTextEscape html c ≡ false
+  unfolding isTextEscape
+  no-text-escape true under = no-label-escape
+  no-text-escape false under = rw (no-label-escape, under)
+
+pub no-math-escape : (c : ℕ) → eqb c 96 ≡ false → isMathEscape c ≡ false
+unfolding isMathEscape
+no-math-escape c tick = tick
+
+-- a sign below the letters is the capital of no other byte
+pub upper-not : (b c : ℕ) → b < 65 → eqb c b ≡ false → eqb (upper c) b ≡ false
+unfolding upper
+upper-not b c h n = go (isSmall c) refl
+  where
+    go : (t : Bool) → isSmall c ≡ t → eqb (cond t (c - 32) c) b ≡ false
+    go true t = let x = small-is c t in ne-eqb (c - 32) b (λ z. omega (arith, x .0, h))
+    go false t = n
 
 -- the Rust's reading bars no byte
 pub nothing-barred : (c : ℕ) → barsNothing c ≡ false

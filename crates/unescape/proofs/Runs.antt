@@ -2,12 +2,12 @@
 -- Assumes nothing.
 use Prim.Native.Nat.{ℕ, _+_, _≤_, _<_}
 use mathlib.Core.Path.{_≡_, ap}
-use mathlib.Core.Bool.{true, false}
+use mathlib.Core.Bool.{false}
 use mathlib.Core.List.{List, _∷_}
 use native.Mathlib.Omega.{arith}
 use lib.Dec.{eqb}
 use lib.ListN.{length, drop, getD}
-use Rattle.byte_rules.specs.Classes.{isTextEscape, isLabelEscape, isMathEscape}
+use Rattle.byte_rules.proofs.Laws.{no-text-escape, no-label-escape, no-math-escape}
 use Rattle.scans.specs.Marks.{tick, tilde, lbracket, under}
 use Rattle.scans.specs.Plain.{markAt, plainEnd}
 use Rattle.scans.proofs.PlainLaws.{plain-byte, run-keeps}
@@ -18,11 +18,9 @@ use Rattle.unescape.proofs.Laws.{step-plain, unescaped-step}
 
 -- what is none of the four is no escape
 none-of : (kind : Escape) (c : ℕ) → eqb c tick ≡ false → eqb c lbracket ≡ false → eqb c tilde ≡ false → eqb c under ≡ false → isEscape kind c ≡ false
-unfolding isTextEscape isLabelEscape isMathEscape
-none-of (Text true) c a b d e = rw (a, b, d)
-none-of (Text false) c a b d e = rw (a, b, d, e)
-none-of Label c a b d e = rw (a, b, d)
-none-of Math c a b d e = a
+none-of (Text html) c a b d e = no-text-escape c a b d html e
+none-of Label c a b d e = no-label-escape c a b d
+none-of Math c a b d e = no-math-escape c a
 
 module _ (kind : Escape) (s : List ℕ) where
   module _ (i : ℕ) (h : i < length s) (m : markAt s i ≡ false) where

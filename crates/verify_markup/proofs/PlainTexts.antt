@@ -1,17 +1,13 @@
 -- Plain bytes give no diagnostic of a text or a label: none of them is an escape byte, and none begins an HTML mark.
 -- Assumes nothing.
 use Prim.Native.Nat.{ℕ, _+_, _-_, _≤_, _<_}
-use mathlib.Core.Path.{_≡_, refl, sym, _∙_}
-use mathlib.Core.Bool.{Bool, true, false, cond}
+use mathlib.Core.Path.{_≡_, sym, _∙_}
+use mathlib.Core.Bool.{false}
 use mathlib.Core.List.{List, []}
 use native.Mathlib.Omega.{arith}
-use lib.Dec.{eqb}
 use lib.ListN.{length, getD, take}
 use lib.Seq.{getD-take, length-take-le}
-use borrow.Author.Tests.{leb-true, ne-eqb}
-use Rattle.byte_rules.specs.Classes.{isSmall}
-use Rattle.byte_rules.specs.Names.{upper}
-use Rattle.byte_rules.proofs.Laws.{both}
+use Rattle.byte_rules.proofs.Laws.{upper-not}
 use Rattle.look.specs.Look.{holdsAt}
 use Rattle.look.proofs.Laws.{holds-in}
 use Rattle.scans.specs.Marks.{less}
@@ -65,19 +61,11 @@ module _ (buf : List ℕ) (kind : Escape) (e : ℕ) (fits : e ≤ length buf) wh
 
 -- ---- HTML marks: each begins with a `<`
 
-upper-not : (c : ℕ) → eqb c less ≡ false → eqb (upper c) less ≡ false
-unfolding upper isSmall
-upper-not c n = go (isSmall c) refl
-  where
-    go : (b : Bool) → isSmall c ≡ b → eqb (cond b (c - 32) c) less ≡ false
-    go true b = let x = both _ _ b in ne-eqb (c - 32) less (λ z. omega (arith, leb-true 97 c (x .0)))
-    go false b = n
-
 module _ (s : List ℕ) where
   module _ (k : ℕ) (h : k < length s) (m : markAt s k ≡ false) where
     no-letter : holdsAt (isLetter less) s k ≡ false
     unfolding isLetter
-    no-letter = holds-in (isLetter less) s k h ∙ upper-not (getD s k 0) (plain-byte s k h m .not-2)
+    no-letter = holds-in (isLetter less) s k h ∙ upper-not less (getD s k 0) (omega arith) (plain-byte s k h m .not-2)
 
     plain-html : htmlLen s k ≡ 0
     unfolding htmlLen foldedAt
