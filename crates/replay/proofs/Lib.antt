@@ -2,3 +2,4 @@ pub mod Over
 pub mod Hex
 pub mod Fields
 pub mod Rooms
+pub mod Standing

@@ -1,4 +1,4 @@
-// Ops E and P, which list records: the words that are lent, and the answer.
+// Ops E and P, which list records: the words that are lent, and the answer. Op C lists its records by the same functions.
 use crate::header::Header;
 use crate::output::Told;
 use crate::output::emit_line;
@@ -8,6 +8,7 @@ use crate::texts::number_of;
 use events::events;
 use parentheticals::parentheticals;
 use records::Filled;
+use records::Refusal;
 ghost use Prim.Native.Nat.{_+_, _≤_, _<_};
 ghost use lib.ListN.{length};
 
@@ -16,7 +17,7 @@ fn word_pattern(i: usize) -> u32 {
     (i % 65521) as u32 + 1
 }
 
-fn fill_words(words: &mut [u32]) {
+pub fn fill_words(words: &mut [u32]) {
     let mut i = 0;
     while i < words.len() {
         words[i] = word_pattern(i);
@@ -147,8 +148,19 @@ fn emit_listed(
     emit_words_touched(out, listed.at, words, listed.words)
 }
 
+// The line of a refusal: a table's number and entry, or no records.
+pub fn emit_refusal(out: &mut [u8], at: usize, op: u8, why: Refusal) -> usize
+    requires { ⌜ at ≤ length (now out) ⌝ }
+    ensures { λ r. ⌜ r ≤ length (now (out .exit)) ⌝ }
+{
+    if let Refusal::BadTable { table, entry } = why {
+        return emit_line(out, at, &[op], &[4, table as u64, entry as u64]);
+    }
+    emit_line(out, at, &[op], &[number_of(why), 0])
+}
+
 // What the list call of an op answered, with what it left in the words.
-fn emit_list(
+pub fn emit_list(
     out: &mut [u8],
     at: usize,
     op: u8,
@@ -163,7 +175,7 @@ fn emit_list(
         Filled::Done(n) => emit_listed(out, at, op, width, 0, n, words),
         Filled::Short(n) => emit_listed(out, at, op, width, 7, n, words),
         Filled::Refused(why) => {
-            let to = emit_line(out, at, &[op], &[number_of(why), 0]);
+            let to = emit_refusal(out, at, op, why);
             emit_words_touched(out, to, words, 0)
         }
     }

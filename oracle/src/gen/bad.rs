@@ -30,6 +30,19 @@ pub fn inputs() -> Vec<Bad> {
         over.resize(over.len() + 262_145, b'a');
         add(ops, "payload-over-the-limit", over, &good);
     }
+    // a table of each number that is one byte too long, and one that the input cuts in an end or in the names
+    for (flag, most) in [(0, 262_144u32), (2, 2_097_152), (3, 262_144)] {
+        let mut over = bytes_of(&table(flag, &[], b""));
+        over[20..24].copy_from_slice(&(most + 1).to_le_bytes());
+        over.resize(over.len() + most as usize + 1, 0);
+        add("LT", &format!("payload-over-the-limit-of-{flag}"), over, &good);
+    }
+    for flag in 0..=3 {
+        let lent = bytes_of(&table(flag, &[1, 2], b"ab"));
+        for length in [24, 27, 31, 33] {
+            add("LT", &format!("table-{flag}-cut-at-{length}"), lent[..length].to_vec(), b"");
+        }
+    }
     for case in no_cases() {
         let ops = OPS.iter().find(|(op, _)| *op == case.1.op).expect("a known op").1;
         add(ops, case.0, bytes_of(&case.1), &good);

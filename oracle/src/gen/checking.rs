@@ -1,6 +1,7 @@
 //! Cases for the comment check against lent tables (ops T and C).
 use super::comments;
-use super::names::any_table;
+use super::names::{any_table, name};
+use super::random::Rng;
 use super::sink::{span_case, Sink};
 use super::texts::{any_span, each_sequence, each_span, each_text, mutated};
 use super::Plan;
@@ -64,6 +65,43 @@ pub fn random(plan: &Plan, sink: &mut Sink) {
             sink.put_roomed(case);
         }
     }
+}
+
+/// Random tables of each number, and comments put together from their names and from names beside them.
+pub fn tables(plan: &Plan, sink: &mut Sink) {
+    let mut names: [Vec<Vec<u8>>; 3] = Default::default();
+    for _ in 0..plan.either(5_000, 100_000) {
+        let number = sink.rng.below(3);
+        names[number] = (0..sink.rng.below(20)).map(|_| name(&mut sink.rng, 6)).collect();
+        sink.lend(number as u8 + 1, &names[number]);
+        if sink.rng.percent(5) {
+            names[2].clear();
+            sink.lend_no_bibliography();
+        }
+        for _ in 0..4 {
+            let text = of_names(&mut sink.rng, &names);
+            sink.put_roomed(span_case(b'C', &text, 0, text.len()));
+        }
+    }
+}
+
+/// Tokens, labels and tags: mostly of their own table, now and then of another, changed, or new.
+fn of_names(rng: &mut Rng, names: &[Vec<Vec<u8>>; 3]) -> Vec<u8> {
+    let mut text = vec![];
+    for _ in 0..1 + rng.below(6) {
+        let kind = rng.below(3);
+        let table = &names[if rng.percent(80) { kind } else { rng.below(3) }];
+        let new = table.is_empty() || rng.percent(15);
+        let mut word = if new { name(rng, 6) } else { table[rng.below(table.len())].clone() };
+        if rng.percent(15) {
+            word = mutated(rng, &word);
+        }
+        let (before, behind) = [(&b"` "[..], &b" ` "[..]), (b"~ ", b" "), (b"[", b"] ")][kind];
+        text.extend_from_slice(before);
+        text.extend_from_slice(&word);
+        text.extend_from_slice(behind);
+    }
+    text
 }
 
 /// Malformed tables of each number, several at once, with spans that are refused or not.

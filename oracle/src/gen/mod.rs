@@ -14,6 +14,8 @@ pub mod sink;
 pub mod stepping;
 pub mod stored;
 pub mod stored_comments;
+pub mod stored_sweeps;
+pub mod stored_tables;
 pub mod texts;
 pub mod unescaping;
 
@@ -105,6 +107,7 @@ pub const STREAMS: &[Stream] = &[
     of_mm("N-database", "TN", database::lookups),
     plain("C-exhaustive", "TC", checking::exhaustive),
     plain("C-random", "TC", checking::random),
+    plain("C-tables", "TC", checking::tables),
     plain("C-malformed", "TC", checking::malformed),
     plain("C-limits", "TC", limits::checks),
     of_mm("C-database", "TC", database::checks),

@@ -96,7 +96,7 @@ pub fn lookups(plan: &Plan, sink: &mut Sink) {
         sink.put(&lookup(flag, b""));
         sink.put(&lookup(flag, b"a"));
     }
-    for round in 0..plan.either(1_500, 30_000) {
+    for round in 0..plan.either(7_000, 30_000) {
         let flag = 1 + sink.rng.below(3) as u8;
         let size = if round % 50 == 0 { 200 } else { sink.rng.below(20) };
         let names: Vec<Vec<u8>> = (0..size).map(|_| name(&mut sink.rng, 6)).collect();

@@ -1,7 +1,9 @@
-//! The stored cases: a few hundred, chosen so that each rule and each refusal of an op is there.
-//! A new op gets a function, here or in stored_comments.rs, and a line in `put`.
+//! The stored cases: a few thousand, chosen so that each rule and each refusal of an op is there.
+//! A new op gets a function, here, in stored_comments.rs or in stored_tables.rs, and a line in `put`; stored_sweeps.rs adds what goes by the hundred.
 use super::sink::{span_case, Sink};
-use super::stored_comments::{checks, credits, events, flags, lookups, parser_unescaping, steps};
+use super::stored_comments::{credits, events, flags, parser_unescaping, steps};
+use super::stored_sweeps as sweeps;
+use super::stored_tables::{checks, lookups};
 use crate::cases::Case;
 
 /// The stored cases of an op.
@@ -17,11 +19,21 @@ pub fn put(op: u8, sink: &mut Sink) {
         b'E' => events(sink),
         b'S' => steps(sink),
         b'V' => parser_unescaping(sink),
-        b'P' => credits(sink, b'P'),
-        b'Q' => credits(sink, b'Q'),
+        b'P' | b'Q' => credits(sink, op),
         b'F' => flags(sink),
         b'N' => lookups(sink),
         b'C' => checks(sink),
+        _ => {}
+    }
+    match op {
+        b'L' => sweeps::labels(sink),
+        b'U' => sweeps::unescaping(sink),
+        b'D' => sweeps::dates(sink),
+        b'E' => sweeps::events(sink),
+        b'S' => sweeps::steps(sink),
+        b'P' | b'Q' => sweeps::credits(sink, op),
+        b'F' => sweeps::flags(sink),
+        b'C' => sweeps::checks(sink),
         _ => {}
     }
 }

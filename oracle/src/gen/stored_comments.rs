@@ -1,12 +1,12 @@
-//! The stored cases of the ops that read comments, states and tables: E, S, V, P, Q, F, N, C.
-use super::sink::{span_case, table, Sink};
+//! The stored cases of the ops that read comments and states: E, S, V, P, Q, F.
+use super::sink::{span_case, Sink};
 use super::stepping::state_bytes;
 use super::stored::bytes;
-use super::texts::{each_sequence, each_span};
+use super::texts::each_span;
 use crate::cases::Case;
 
 /// Comments that between them meet every reading rule.
-const COMMENTS: &[&str] = &[
+pub const COMMENTS: &[&str] = &[
     "",
     "[]",
     "[a ]",
@@ -223,94 +223,4 @@ pub fn flags(sink: &mut Sink) {
         bytes(sink, b'F', text.as_bytes());
     }
     bytes(sink, b'F', b"x(New \n usage is discouraged.)\xff(Proof\rmodification is discouraged.)");
-}
-
-pub fn lookups(sink: &mut Sink) {
-    let look = |sink: &mut Sink, flag: u8, text: &[u8]| {
-        sink.put(&Case { op: b'N', flag, payload: text.to_vec(), ..Case::default() });
-    };
-    for flag in 1..=3 {
-        look(sink, flag, b"");
-        look(sink, flag, b"a");
-        sink.lend(flag, &["", "a", "ab", "b", "\u{e9}"]);
-        for text in ["", "a", "ab", "abc", "b", "c", "\u{e9}", "A"] {
-            look(sink, flag, text.as_bytes());
-        }
-    }
-    sink.lend_no_bibliography();
-    look(sink, 3, b"a");
-    let malformed: &[(&[u32], &[u8])] = &[
-        (&[], b"a"),
-        (&[1], b""),
-        (&[1], b"ab"),
-        (&[2, 1], b"ab"),
-        (&[1, 2], b"aa"),
-        (&[1, 2], b"ba"),
-        (&[1, 1], b"a"),
-        (&[0, 0], b""),
-        (&[0, 1, 2, 3], b"abb"),
-        (&[1, 3, 2], b"abc"),
-        (&[1, 2, 4], b"abc"),
-        (&[u32::MAX], b"a"),
-        (&[2, 3], b"aba"),
-        (&[0], b""),
-        (&[], b""),
-    ];
-    for (ends, names) in malformed {
-        sink.put(&table(2, ends, names));
-        look(sink, 2, b"a");
-    }
-}
-
-pub fn checks(sink: &mut Sink) {
-    sink.lend(1, &["a", "b"]);
-    sink.lend(2, &["a", "ax-1", "a[b"]);
-    sink.lend(3, &["A", "a"]);
-    let put = |sink: &mut Sink, text: &str, a: usize, b: usize, room: u32| {
-        sink.put(&Case { room, ..span_case(b'C', text.as_bytes(), a, b) });
-    };
-    for text in COMMENTS {
-        put(sink, text, 0, text.len(), 128);
-    }
-    for text in [
-        "` a b c `",
-        "`a`",
-        "x` a `y",
-        "x~ a",
-        "~a",
-        "~ ",
-        "~ b",
-        "~ a[[b",
-        "~ a~b",
-        "~ a`",
-        "[B]",
-        "[a~b]",
-        "[`` ]",
-        "[a``]",
-        "<HTML>",
-        "` a",
-        "<HTML>` a",
-        "<HtMl> </html>",
-        "~ <Html>x",
-        "a_b ~~ ` x` _",
-        "<HTML>_ a</HTML>_ ",
-    ] {
-        put(sink, text, 0, text.len(), 64);
-    }
-    each_sequence(&[b"_", b"`", b"a"], 3, &mut |text| {
-        each_span(text.len(), &mut |a, b| sink.put(&Case { room: 64, ..span_case(b'C', text, a, b) }));
-    });
-    for room in [0, 1, 3, 4, 5, 8, 12] {
-        put(sink, "`c` ~ d", 0, 7, room);
-    }
-    sink.lend_no_bibliography();
-    put(sink, "[B] [b~]", 0, 8, 64);
-    sink.put(&table(3, &[2], b"a"));
-    put(sink, "[B]", 0, 3, 64);
-    sink.put(&table(2, &[0, 0], b""));
-    put(sink, "[B]", 0, 3, 64);
-    sink.put(&table(1, &[], b"a"));
-    put(sink, "[B]", 0, 3, 0);
-    put(sink, "[B]", 0, 4, 64);
-    put(sink, "[B]", 2, 1, 64);
 }

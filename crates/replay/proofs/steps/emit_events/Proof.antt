@@ -20,8 +20,8 @@ loop-holds c = (omega arith, refl)
 next-requires : tie.Need-next-requires Inv-loop μ-loop
 next-requires c κs = tt
 
-enum-known-item : tie.Need-enum-known-item Inv-loop μ-loop
-enum-known-item c = search needs
+enum-known-after : tie.Need-enum-known-after Inv-loop μ-loop
+enum-known-after c = search needs
 
 same-length : tie.Need-same-length Inv-loop μ-loop
 same-length c = omega arith
@@ -55,7 +55,7 @@ emit-events-spec =
     μ-loop
     loop-holds
     next-requires
-    enum-known-item
+    enum-known-after
     same-length
     returns
     emit-event-requires

@@ -36,8 +36,8 @@ enum-known-after-2 c = search needs
 returns : tie.Need-returns Inv-loop μ-loop
 returns c = tt
 
-enum-known-why : tie.Need-enum-known-why Inv-loop μ-loop
-enum-known-why c = search needs
+enum-known-after-3 : tie.Need-enum-known-after-3 Inv-loop μ-loop
+enum-known-after-3 c = search needs
 
 number-of-requires : tie.Need-number-of-requires Inv-loop μ-loop
 number-of-requires c κs = tt
@@ -62,7 +62,7 @@ walk-spec =
     loop-again
     enum-known-after-2
     returns
-    enum-known-why
+    enum-known-after-3
     number-of-requires
     returns-2
     returns-3)
