@@ -1,17 +1,20 @@
 -- The laws of a candidate and of the search for one: one for each way that the code goes.
 -- Assumes nothing.
-use Prim.Native.Nat.{ℕ, suc, _+_, _-_, _<_, _≤_}
-use mathlib.Core.Path.{_≡_}
+use Prim.Native.Nat.{ℕ, zero, suc, _+_, _-_, _<_, _≤_}
+use mathlib.Core.Path.{_≡_, refl, _∙_}
 use mathlib.Core.List.{List}
 use mathlib.Core.Bool.{Bool, true, false}
 use mathlib.Core.Option.{Option, none, some}
+use native.Mathlib.Nat.{le-refl}
 use native.Mathlib.Omega.{arith}
 use lib.ListN.{length, getD}
 use borrow.Author.Tests.{eq-eqb, ne-eqb}
 use Rattle.byte_rules.specs.Classes.{isCreditSpace}
 use Rattle.look.proofs.Laws.{byte-test}
+use Rattle.scans.specs.Plain.{Lacks, Lacking}
+use Rattle.scans.proofs.Laws.{clash}
 use Rattle.parentheticals.specs.Fields.{phraseAt, authorEnd}
-use Rattle.parentheticals.specs.Matching.{headAt, noticeAt, tailAt, credited, noticed, restAt, creditAt, matchAt, firstOf, nextFrom, standsIn}
+use Rattle.parentheticals.specs.Matching.{headAt, noticeAt, tailAt, credited, noticed, restAt, creditAt, matchAt, firstOf, nextFrom, Passed, standsIn}
 use Rattle.parentheticals.specs.declared.Found.{Found}
 use Rattle.parentheticals.specs.declared.matching.Closing.{Closing}
 use Rattle.parentheticals.proofs.Authors.{Way}
@@ -95,6 +98,24 @@ module _ (bars : ℕ → Bool) (s : List ℕ) (i : ℕ) where
   pub next-hit : i < length s → (f : Found) → matchAt bars s i ≡ some f → nextFrom bars s i ≡ some f
   unfolding nextFrom
   next-hit h f e = first-hit (matchAt bars s) (length s) i h f e
+
+-- bytes that open nothing are stepped over
+module _ (bars : ℕ → Bool) (s : List ℕ) where
+  pub passed-starts : (i : ℕ) → Passed bars s i i
+  passed-starts i = record { same = refl; onward = le-refl i }
+
+  pub passed-one : {i r : ℕ} → Passed bars s i r → r < length s → (getD s r 0 ≡ 40 → ⊥) → Passed bars s i (r + 1)
+  passed-one {i} {r} p h n = record { same = p .same ∙ next-miss bars s r h (no-opening bars s r h n); onward = omega (arith, p .onward) }
+
+  passed-some : (k : ℕ) {i r : ℕ} → Passed bars s i r → r + k ≤ length s → Lacks s r k 40 → Passed bars s i (r + k)
+  passed-some zero {i} {r} p h l = let z : r + 0 ≡ r = omega arith in rw z p
+  passed-some (suc k) {i} {r} p h l =
+      let z : r + k + 1 ≡ r + suc k = omega arith in
+      let before = passed-some k p (omega arith) (λ j a. l j (omega arith)) in
+      rw z at (passed-one before (omega arith) (λ e. clash (l k (omega arith)) (eq-eqb (getD s (r + k) 0) 40 e)))
+
+  pub passed-eight : {i r : ℕ} → Passed bars s i r → Lacking s r 40 → Passed bars s i (r + 8)
+  passed-eight p l = passed-some 8 p (l .within) (l .none)
 
 module _ (w s : List ℕ) (i : ℕ) where
   pub stands-none : length s ≤ i → standsIn w s i ≡ false

@@ -1,6 +1,7 @@
 -- Parentheticals (document 01, "Credits and dates"): what matches at an opening parenthesis, the first match from a place on, and all of them.
-use Prim.Native.Nat.{ℕ, zero, suc, _+_, _-_}
+use Prim.Native.Nat.{ℕ, zero, suc, _+_, _-_, _≤_}
 use mathlib.Core.List.{List}
+use mathlib.Core.Path.{_≡_}
 use mathlib.Core.Bool.{Bool, true, false, cond}
 use mathlib.Core.Option.{Option, none, some}
 use lib.ListN.{length}
@@ -111,6 +112,11 @@ module _ (bars : ℕ → Bool) (s : List ℕ) where
   -- the leftmost match from i on
   unfoldable pub nextFrom : ℕ → Option Found
   nextFrom i = firstOf (matchAt bars s) (length s - i) i
+
+  -- a search that is at i may go on at r
+  pub record Passed (i r : ℕ) : Type 0 where
+    pub same : nextFrom i ≡ nextFrom r
+    pub onward : i ≤ r
 
   -- it, and its end, from which the next is looked for: none overlap
   unfoldable pub stepFrom : ℕ → Option (Found × ℕ)

@@ -2,7 +2,7 @@
 ghost use mathlib.Core.Path.{_≡_};
 ghost use Rattle.byte_rules.specs.Reading.{rust};
 ghost use Rattle.parentheticals.specs.Fields.{placeOf};
-ghost use Rattle.parentheticals.specs.Matching.{headOf, tailOf, foundOf, authorAfter, headAt, noticeAt, tailAt, creditOf, noticeOf, credited, noticed, nextFrom};
+ghost use Rattle.parentheticals.specs.Matching.{headOf, tailOf, foundOf, authorAfter, headAt, noticeAt, tailAt, creditOf, noticeOf, credited, noticed, nextFrom, Passed};
 use crate::Found;
 use crate::Parenthetical;
 use crate::Span;
@@ -12,6 +12,7 @@ use crate::fields::author_start;
 use crate::fields::date_at;
 use crate::fields::phrase_at;
 use look::byte_at;
+use scans::plain::lacks_8;
 
 // A kind, and the place behind what tells it.
 pub enum Head {
@@ -145,6 +146,23 @@ fn notice_of(kind: u8) -> Parenthetical
     Parenthetical::NewUsageDiscouraged
 }
 
+// The search may go on from here: up to the next `(` no parenthetical begins. Most bytes are stepped over eight at a time.
+fn to_opening(text: &[u8], from: usize) -> usize
+    ensures { λ r. ⌜ Passed (rust .barsAuthor) (now (text .entry)) from r ⌝ }
+{
+    let mut i = from;
+    while lacks_8(text, i, b'(') {
+        i += 8;
+    }
+    while i < text.len() {
+        if text[i] == b'(' {
+            return i;
+        }
+        i += 1;
+    }
+    i
+}
+
 // The leftmost parenthetical from `from` on. At the first byte that does not fit, the field and the candidate are left,
 // and the next `(` after the candidate's own is tried.
 pub fn next_match(text: &[u8], from: usize) -> Search
@@ -158,6 +176,7 @@ pub fn next_match(text: &[u8], from: usize) -> Search
         let opening = at;
         at += 1;
         if text[opening] != b'(' {
+            at = to_opening(text, at);
             continue 'candidates;
         }
         if let Head::Kind(kind, end) = notice_at(text, opening + 1) {

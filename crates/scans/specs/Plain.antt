@@ -34,6 +34,11 @@ module _ (s : List ℕ) where
 abbrev pub Lacks : List ℕ → ℕ → ℕ → ℕ → Type 0
 Lacks s i n b = (k : ℕ) → k < n → eqb (getD s (i + k) 0) b ≡ false
 
+-- eight bytes from i on, and b is not among them
+pub record Lacking (s : List ℕ) (i b : ℕ) : Type 0 where
+  pub within : i + 8 ≤ length s
+  pub none : Lacks s i 8 b
+
 -- eight plain bytes from i on
 pub record Plain8 (s : List ℕ) (i : ℕ) : Type 0 where
   pub within : i + 8 ≤ length s

@@ -3,7 +3,7 @@ ghost use mathlib.Core.Path.{_≡_};
 ghost use mathlib.Core.Bool.{true, false};
 ghost use Prim.Native.Nat.{_+_, _≤_};
 ghost use lib.ListN.{length};
-ghost use Rattle.scans.specs.Plain.{isMark, plainEnd, Lacks, Plain8};
+ghost use Rattle.scans.specs.Plain.{isMark, plainEnd, Lacks, Lacking, Plain8};
 
 // A byte that a rule may take outside math. Most bytes are small letters, which lie between the marks.
 fn is_mark(c: u8) -> bool
@@ -30,6 +30,19 @@ fn byte_in_8(text: &[u8], i: usize, b: u8) -> bool
         k += 1;
     }
     found
+}
+
+// Eight bytes from i on, and b is not among them.
+pub fn lacks_8(text: &[u8], i: usize, b: u8) -> bool
+    ensures { λ r. ⌜ (r ≡ true → Lacking (now (text .entry)) i b) ⌝ }
+{
+    if text.len() < 8 {
+        return false;
+    }
+    if text.len() - 8 < i {
+        return false;
+    }
+    !byte_in_8(text, i, b)
 }
 
 // Eight plain bytes from i on.

@@ -32,10 +32,10 @@ module _ (kind : Escape) (s : List ℕ) where
         let one : stepAt (isEscape kind) s i ≡ 1 = step-plain (isEscape kind) s i no-escape in
         rw one at (unescaped-step (isEscape kind) s i h)
 
-  -- the bytes up to i and those to come
-  abbrev both : ℕ → ℕ
-  both i = i + length (unescaped (isEscape kind) (drop i s))
+  -- the bytes up to i, and those to come unescaped
+  abbrev total : ℕ → ℕ
+  total i = i + length (unescaped (isEscape kind) (drop i s))
 
   -- a run of plain bytes is as long unescaped
-  pub run-length : (i p : ℕ) → p ≡ plainEnd s i → i ≤ length s → both i ≡ both p
-  run-length i p e h = rw e (run-keeps s both (λ k l m. omega (arith, ap length (plain-first k l m))) i h)
+  pub run-length : (i p : ℕ) → p ≡ plainEnd s i → i ≤ length s → total i ≡ total p
+  run-length i p e h = rw e (run-keeps s total (λ k l m. omega (arith, ap length (plain-first k l m))) i h)

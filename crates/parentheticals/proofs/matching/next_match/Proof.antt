@@ -87,14 +87,17 @@ shared-slice-read-if1 :
     tie.Need-shared-slice-read-if1 Inv-field μ-field Inv-candidates μ-candidates
 shared-slice-read-if1 c = search needs
 
+to-opening-requires : tie.Need-to-opening-requires Inv-field μ-field Inv-candidates μ-candidates
+to-opening-requires c κs = search needs
+
 candidates-less : tie.Need-candidates-less Inv-field μ-field Inv-candidates μ-candidates
-candidates-less c = search needs
+candidates-less c = omega (arith, c .to-opening .ensures .onward, c .before .before .before .candidates-test .taken)
 
 candidates-again : tie.Need-candidates-again Inv-field μ-field Inv-candidates μ-candidates
 candidates-again c =
-    let at = c .before .before .before .candidates in
-    let h = c .before .before .candidates-test .taken in
-    (sym (next-miss _ _ _ h (no-opening _ _ _ h (c .if1 .taken))) ∙ at .inv .0, at .inv .1)
+    let at = c .before .before .before .before .candidates in
+    let h = c .before .before .before .candidates-test .taken in
+    (sym (next-miss _ _ _ h (no-opening _ _ _ h (c .before .if1 .taken)) ∙ c .to-opening .ensures .same) ∙ at .inv .0, at .inv .1)
 
 add-notice-at : tie.Need-add-notice-at Inv-field μ-field Inv-candidates μ-candidates
 add-notice-at c = search needs
@@ -231,6 +234,7 @@ next-match-spec =
     candidates-holds
     add-at
     shared-slice-read-if1
+    to-opening-requires
     candidates-less
     candidates-again
     add-notice-at
