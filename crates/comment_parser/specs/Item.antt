@@ -1,6 +1,5 @@
 -- An item's record form: kind, place, start, end. A span alone has its start as place; a place alone has start and end equal to it.
 use Prim.Native.Nat.{ℕ, _≤_}
-use mathlib.Core.List.{[]}
 use Rattle.comment_parser.specs.declared.Span.{Span}
 use Rattle.comment_parser.specs.declared.Placed.{Placed}
 use Rattle.comment_parser.specs.declared.CommentItem.{CommentItem}

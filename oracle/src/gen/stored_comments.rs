@@ -2,20 +2,11 @@
 use super::sink::{span_case, Sink};
 use super::stepping::state_bytes;
 use super::stored::bytes;
-use super::texts::each_span;
+use super::texts::{each_span, SAMPLES};
 use crate::cases::Case;
 
-/// Comments that between them meet every reading rule.
-pub const COMMENTS: &[&str] = &[
-    "",
-    "[]",
-    "[a ]",
-    "~",
-    "~ mmx",
-    "\n\n\n",
-    "( `a` )",
-    "x_0`b.c`",
-    "x_0 ~ ax-1.",
+/// Comments that, with document 01's samples, meet every reading rule.
+const COMMENTS: &[&str] = &[
     "a `` b",
     "` a``b  c `",
     "` a",
@@ -92,8 +83,13 @@ pub const COMMENTS: &[&str] = &[
     "x_<HTML>y z</HTML>",
 ];
 
+/// The samples, and the comments beside them.
+pub fn comments() -> impl Iterator<Item = &'static &'static str> {
+    SAMPLES.iter().chain(COMMENTS)
+}
+
 pub fn events(sink: &mut Sink) {
-    for text in COMMENTS {
+    for text in comments() {
         sink.put(&Case { room: 128, ..span_case(b'E', text.as_bytes(), 0, text.len()) });
     }
     for text in ["a_b_", " _b_", "a`b` ", "~ a[b]", "\n\na"] {

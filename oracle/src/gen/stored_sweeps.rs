@@ -2,26 +2,8 @@
 use super::sink::{span_case, Sink};
 use super::stepping::state_bytes;
 use super::stored::bytes;
-use super::texts::{each_span, TELLING};
+use super::texts::{each_span, SAMPLES, TELLING};
 use crate::cases::Case;
-
-/// Document 01's sample comments.
-const SAMPLES: &[&str] = &[
-    "",
-    "[]",
-    "[a ]",
-    "~",
-    "~ mmx",
-    "\n\n\n",
-    "( `a` )",
-    "x_0`b.c`",
-    "a_b_",
-    " _b_",
-    "a__",
-    "a_",
-    "a__b<HTML>",
-    "x_0 ~ ax-1.",
-];
 
 /// Each sample in every span with the room it needs, and whole in every room up to one more.
 fn samples(sink: &mut Sink, op: u8) {

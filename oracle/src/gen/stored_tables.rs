@@ -1,6 +1,6 @@
 //! The stored cases of the ops that read lent tables: N and C, with the T that they need.
 use super::sink::{span_case, table, Sink};
-use super::stored_comments::COMMENTS;
+use super::stored_comments::comments;
 use super::texts::{each_sequence, each_span};
 use crate::cases::Case;
 
@@ -115,7 +115,7 @@ pub fn checks(sink: &mut Sink) {
     for room in 0..=48 {
         put(sink, TOGETHER, 0, TOGETHER.len(), room);
     }
-    for text in COMMENTS {
+    for text in comments() {
         put(sink, text, 0, text.len(), 128);
     }
     for text in [

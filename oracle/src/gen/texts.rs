@@ -105,3 +105,21 @@ pub fn any_span(rng: &mut Rng, length: usize) -> (usize, usize) {
         _ => (a.min(b), a.max(b)),
     }
 }
+
+/// Document 01's sample comments.
+pub const SAMPLES: &[&str] = &[
+    "",
+    "[]",
+    "[a ]",
+    "~",
+    "~ mmx",
+    "\n\n\n",
+    "( `a` )",
+    "x_0`b.c`",
+    "a_b_",
+    " _b_",
+    "a__",
+    "a_",
+    "a__b<HTML>",
+    "x_0 ~ ax-1.",
+];
