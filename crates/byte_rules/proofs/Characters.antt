@@ -10,8 +10,8 @@ use native.Mathlib.Omega.{arith}
 use lib.Dec.{leb, eqb}
 use lib.ListN.{length, drop, getD, List·getD-eq-default}
 use borrow.Author.Tests.{leb-true, leb-false}
+use Rattle.basics.proofs.Laws.{both}
 use Rattle.byte_rules.specs.Utf8.{byteOr, within, isTail, isOne, isTwo, isThree, isFour, charLen}
-use Rattle.byte_rules.proofs.Laws.{both}
 use Rattle.byte_rules.proofs.CharLaws.{byte-in, char-from}
 
 -- a number in a range

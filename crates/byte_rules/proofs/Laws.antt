@@ -3,26 +3,13 @@
 use Prim.Native.Nat.{ℕ, _-_, _≤_, _<_}
 use mathlib.Core.Path.{_≡_, refl}
 use mathlib.Core.Bool.{Bool, true, false, cond, _&&_, _||_, false≢true}
-use mathlib.Core.List.{List}
 use native.Mathlib.Omega.{arith}
 use lib.Dec.{leb, eqb}
-use lib.ListN.{length, take, drop, length-drop}
-use lib.Seq.{take-all}
-use native.Mathlib.Nat.{le-refl}
 use borrow.Author.Tests.{le-leb, leb-true, eqb-true, ne-eqb}
+use Rattle.basics.proofs.Laws.{both}
 use Rattle.byte_rules.specs.Classes.{isBlank, isDigit, isCapital, isSmall, isCreditSpace, isTextEscape, isLabelEscape, isMathEscape}
 use Rattle.byte_rules.specs.Names.{upper}
 use Rattle.byte_rules.specs.Reading.{barsNothing}
-
--- the part of a text from i on, as the code makes it
-pub rest-is : (s : List ℕ) (i : ℕ) → take (length s - i) (drop i s) ≡ drop i s
-rest-is s i = take-all (length s - i) (drop i s) (rw (length-drop i s) (le-refl (length s - i)))
-
-pub both : (a b : Bool) → (a && b) ≡ true → (a ≡ true) × (b ≡ true)
-both true true h = (refl, refl)
-both true false h = (refl, h)
-both false true h = (h, refl)
-both false false h = (h, h)
 
 -- the blanks that are spoken of by name
 pub space-is-blank : isBlank 32 ≡ true
@@ -33,7 +20,7 @@ pub lf-is-blank : isBlank 10 ≡ true
 unfolding isBlank
 lf-is-blank = refl
 
--- every mark stands above the blanks
+-- every byte above the space is no blank
 pub not-blank : (c : ℕ) → 32 < c → isBlank c ≡ false
 unfolding isBlank
 not-blank c h = rw (ne-eqb c 9 (λ e. omega arith), ne-eqb c 10 (λ e. omega arith), ne-eqb c 12 (λ e. omega arith), ne-eqb c 13 (λ e. omega arith), ne-eqb c 32 (λ e. omega arith))

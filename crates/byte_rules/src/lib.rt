@@ -3,7 +3,8 @@ pub mod names;
 pub mod utf8;
 
 ghost use mathlib.Core.Path.{_≡_};
-ghost use Rattle.byte_rules.specs.Classes.{isBlank, isCloser, isItalicOpener, isDigit, isCapital, isSmall, isAlphanumeric, isCreditSpace, isAuthorByte, isTextEscape, isLabelEscape, isMathEscape};
+ghost use Rattle.byte_rules.specs.Classes.{isBlank, isCloser, isItalicOpener, isDigit, isCapital, isSmall, isAlphanumeric};
+ghost use Rattle.byte_rules.specs.Classes.{isCreditSpace, isAuthorByte, isTextEscape, isLabelEscape, isMathEscape};
 
 // Tab, LF, form feed, CR, space.
 pub fn is_blank(c: u8) -> bool

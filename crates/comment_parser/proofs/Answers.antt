@@ -2,16 +2,14 @@
 -- refuse beyond what the plain ones do.
 -- Assumes nothing.
 use Prim.Native.Nat.{ℕ}
-use mathlib.Core.Path.{_≡_, refl, ap, _∙_}
+use mathlib.Core.Path.{_≡_, refl, _∙_}
 use mathlib.Core.Bool.{Bool, true, false, cond, _||_}
 use mathlib.Core.Option.{Option, none, some}
-use native.Mathlib.Omega.{arith}
-use lib.Dec.{ltb, eqb}
+use lib.Dec.{ltb}
 use borrow.Author.Tests.{ltb-false}
+use Rattle.basics.proofs.Laws.{differ}
 use Rattle.records.specs.Answer.{Answer, longest, tooLong, badSpan, spanRefusal}
-use Rattle.records.specs.declared.Refusal.{Refusal}
-use Rattle.records.specs.declared.Refusal.the-variants.{TooLong, BadSpan, BadState, BadTable, NoDate, BadMonth}
-use Rattle.records.proofs.Answers.{coincide, refusalBack, refusal-back, span-good}
+use Rattle.records.proofs.Answers.{coincide, readBack, refused-back, span-good}
 use Rattle.comment_parser.specs.Next.{Step, stepAnswer}
 use Rattle.comment_parser.specs.Own.{ownRefusal}
 use Rattle.comment_parser.specs.declared.ParserState.{ParserState}
@@ -25,27 +23,22 @@ given (some i) t = Event t i
 given none t = End t
 
 stepBack : Step → Next
-stepBack s = cond (eqb (s .answer .number) 0) (given (s .event) (s .state)) (Refused (s .state) (refusalBack (s .answer)))
+stepBack s = readBack (λ values. given (s .event) (s .state)) (Refused (s .state)) (s .answer)
 
 step-back : (n : Next) → stepBack (stepAnswer n) ≡ n
 unfolding stepBack given
 step-back (Event t i) = refl
 step-back (End t) = refl
-step-back (Refused t TooLong) = ap (λ (r : Refusal). Refused t r) (refusal-back TooLong)
-step-back (Refused t BadSpan) = ap (λ (r : Refusal). Refused t r) (refusal-back BadSpan)
-step-back (Refused t BadState) = ap (λ (r : Refusal). Refused t r) (refusal-back BadState)
-step-back (Refused t (BadTable table entry)) = ap (λ (r : Refusal). Refused t r) (refusal-back (BadTable table entry))
-step-back (Refused t NoDate) = ap (λ (r : Refusal). Refused t r) (refusal-back NoDate)
-step-back (Refused t BadMonth) = ap (λ (r : Refusal). Refused t r) (refusal-back BadMonth)
+step-back (Refused t r) = refused-back (λ values. given none t) (Refused t) r
 
 pub next-one : (s : Step) (x y : Next) → stepAnswer x ≡ s → stepAnswer y ≡ s → x ≡ y
 next-one = coincide stepAnswer stepBack step-back
 
 -- none of the tests held
 none-held : (x y : Answer) (a b c d : Bool) (r : Option Answer) → cond a (some x) (cond (b || c || d) (some y) r) ≡ none → (a ≡ false) × (b ≡ false) × (c ≡ false)
-none-held x y true b c d r h = let e : _≡_ {A = ℕ} 0 1 = cc in absurd (omega arith)
-none-held x y false true c d r h = let e : _≡_ {A = ℕ} 0 1 = cc in absurd (omega arith)
-none-held x y false false true d r h = let e : _≡_ {A = ℕ} 0 1 = cc in absurd (omega arith)
+none-held x y true b c d r h = absurd (differ cc)
+none-held x y false true c d r h = absurd (differ cc)
+none-held x y false false true d r h = absurd (differ cc)
 none-held x y false false false d r h = (refl, refl, refl)
 
 -- a span that the parser's own calls take is one that the plain calls take

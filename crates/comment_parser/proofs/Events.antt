@@ -4,8 +4,8 @@ use Prim.Native.Nat.{ℕ, _≤_}
 use mathlib.Core.Path.{_≡_, refl, sym, _∙_}
 use mathlib.Core.List.{List, [], _∷_}
 use mathlib.Core.Option.{Option, none, some}
-use native.Mathlib.Omega.{arith}
 use lib.ListN.{length}
+use Rattle.basics.proofs.Laws.{differ}
 use Rattle.records.specs.Answer.{Answer, stateRefusal, longest}
 use Rattle.records.specs.Produced.{grow}
 use Rattle.records.proofs.Answers.{state-accepted, state-good}
@@ -37,8 +37,7 @@ module _ (rd : Reading) (buf : List ℕ) (st : ParserState) where
   refused-none none e p h = e
   refused-none (some a) e p h =
       let f : paired none st ≡ some p = rw (nextOf, e) at h in
-      let z : _≡_ {A = ℕ} 0 1 = cc in
-      absurd (omega arith)
+      absurd (differ cc)
 
   -- a state that gives an event is accepted
   pub seen-accepted : (p : CommentItem × ParserState) → seen rd buf st ≡ some p → Accepted buf st
@@ -56,8 +55,8 @@ module _ (rd : Reading) (buf : List ℕ) (st : ParserState) where
 
   from-next : (n : Next) → answered rd buf st ≡ n → (p : CommentItem × ParserState) → paired (stepAnswer n .event) (stepAnswer n .state) ≡ some p → answered rd buf st ≡ Event (p .1) (p .0)
   from-next (Event t i) e p h = e ∙ (let x : (i, t) ≡ p = cc in rw (← x))
-  from-next (End t) e p h = let z : _≡_ {A = ℕ} 0 1 = cc in absurd (omega arith)
-  from-next (Refused t r) e p h = let z : _≡_ {A = ℕ} 0 1 = cc in absurd (omega arith)
+  from-next (End t) e p h = absurd (differ cc)
+  from-next (Refused t r) e p h = absurd (differ cc)
 
   pub seen-answered : (p : CommentItem × ParserState) → seen rd buf st ≡ some p → answered rd buf st ≡ Event (p .1) (p .0)
   seen-answered p h = from-next (answered rd buf st) refl p (sym (seen-is (seen-accepted p h)) ∙ h)

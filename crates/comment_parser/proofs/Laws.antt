@@ -10,11 +10,11 @@ use borrow.Author.Tests.{lt-ltb, le-ltb, ne-eqb}
 use Rattle.byte_rules.specs.Reading.{Reading, rust}
 use Rattle.look.specs.Look.{byteAt, blankAt}
 use Rattle.scans.specs.Marks.{lf}
-use Rattle.scans.specs.Plain.{markAt, plainStep, plainEnd}
+use Rattle.scans.specs.Plain.{activeAt, plainStep, plainEnd}
 use Rattle.scans.specs.Scan.{scan}
 use Rattle.scans.specs.declared.Step.the-variants.{One as StepOne}
 use Rattle.scans.proofs.Laws.{by-less, scan-over, scan-le, scan-end}
-use Rattle.scans.proofs.PlainLaws.{mark-free, plain-passed}
+use Rattle.scans.proofs.PlainLaws.{active-free, plain-passed}
 use Rattle.comment_parser.specs.State.{moved}
 use Rattle.comment_parser.specs.Rules.{afterLf, plainRule, textRule, firstRule, stepTo, passAct}
 use Rattle.comment_parser.specs.Pass.{stepOf, runTo, passStep, endedAt, pass, runStart}
@@ -87,18 +87,18 @@ html-cases : (b : Bool) (x : Act) → x ≡ One → elim b [ true ↦ One | fals
 html-cases true x e = refl
 html-cases false x e = e
 
-module _ (s : List ℕ) (st : ParserState) (from k : ℕ) (h : k < length s) (m : markAt s k ≡ false) (o : st .math ≡ false) (n : k + 1 ≡ st .«end_subscript» → ⊥) where
+module _ (s : List ℕ) (st : ParserState) (from k : ℕ) (h : k < length s) (m : activeAt s k ≡ false) (o : st .math ≡ false) (n : k + 1 ≡ st .«end_subscript» → ⊥) where
   plain-is : plainRule rust s st from k ≡ One
   unfolding plainRule
-  plain-is = let f = mark-free s k h m in rw (plainRule, f .not-5, f .not-6)
+  plain-is = let f = active-free s k h m in rw (plainRule, f .not-5, f .not-6)
 
   text-is : textRule rust s st from k ≡ One
   unfolding textRule
-  text-is = let f = mark-free s k h m in rw (textRule, f .not-2, f .not-3, f .not-4) (html-cases (st .html) (plainRule rust s st from k) plain-is)
+  text-is = let f = active-free s k h m in rw (textRule, f .not-2, f .not-3, f .not-4) (html-cases (st .html) (plainRule rust s st from k) plain-is)
 
   first-is : firstRule rust s st from k ≡ One
   unfolding firstRule
-  first-is = let f = mark-free s k h m in rw (firstRule, f .not-1, o) text-is
+  first-is = let f = active-free s k h m in rw (firstRule, f .not-1, o) text-is
 
   act-one : passAct rust s st from k ≡ One
   unfolding passAct stepTo

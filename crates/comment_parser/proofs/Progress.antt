@@ -11,15 +11,15 @@ use native.Mathlib.Omega.{arith}
 use lib.ListN.{length, take, drop}
 use lib.Seq.{length-take-le}
 use lib.Dec.{ltb, leb, eqb}
+use Rattle.basics.proofs.Laws.{both, differ}
 use Rattle.look.specs.Look.{byteAt, blankAt, closerAt, doubledAt, wordAt}
 use Rattle.look.proofs.Laws.{byte-within, doubled-within, word-within}
 use Rattle.scans.specs.Scan.{scan}
 use Rattle.byte_rules.specs.Reading.{Reading}
-use Rattle.byte_rules.proofs.Laws.{both}
 use Rattle.scans.specs.Marks.{tick, tilde, lbracket, under, less, lf, space, openHtml, closeHtml}
 use Rattle.scans.specs.Ends.{blanksStep, blanksEnd, tagEnd, labelStep, labelEnd, subscriptEnd, italicEnd, isUrl}
-use Rattle.scans.specs.declared.Place.{Place}
-use Rattle.scans.specs.declared.Place.the-variants.{At, Nowhere}
+use Rattle.basics.specs.declared.Place.{Place}
+use Rattle.basics.specs.declared.Place.the-variants.{At, Nowhere}
 use Rattle.scans.proofs.Laws.{scan-le, scan-ge}
 use Rattle.scans.proofs.TagLaws.{tag-in}
 use Rattle.comment_parser.proofs.Laws.{run-start-le}
@@ -97,7 +97,7 @@ label-within s low high p a b h k l m = go (isUrl (take (b - a) (drop a s)))
 
 lf-past : (s : List ℕ) (n i : ℕ) → afterLf s n i ≡ true → 0 < n
 unfolding afterLf
-lf-past s zero i h = let z : _≡_ {A = ℕ} 0 1 = cc in omega arith
+lf-past s zero i h = absurd (differ cc)
 lf-past s (suc n) i h = omega arith
 
 module _ (s : List ℕ) (st : ParserState) (from p : ℕ) (h : from ≤ p) (i : p < length s) where
@@ -260,7 +260,7 @@ pub record GoesOn (st t : ParserState) : Type 0 where
 
 give-cases : (w : Waiting) (u : ParserState) (i : CommentItem) (t : ParserState) → elim w [ Item j ↦ Event (moved u (u .pos) Nothing) j | Nothing ↦ End u ] ≡ Event t i → (w ≡ Item i) × (t ≡ moved u (u .pos) Nothing)
 give-cases (Item j) u i t p = (cc, cc)
-give-cases Nothing u i t p = let z : _≡_ {A = ℕ} 0 1 = cc in absurd (let y : ⊥ = omega arith in y)
+give-cases Nothing u i t p = absurd (differ cc)
 
 given : (u : ParserState) (i : CommentItem) (t : ParserState) → give u ≡ Event t i → (u .waiting ≡ Item i) × (t ≡ moved u (u .pos) Nothing)
 unfolding give
@@ -272,7 +272,7 @@ split true x y z Q f g p = f refl p
 split false x y z Q f g p = g refl p
 
 no-item : (w : Waiting) (i : CommentItem) → w ≡ Item i → w ≡ Nothing → ⊥
-no-item w i p q = let z : _≡_ {A = ℕ} 0 1 = cc in omega arith
+no-item w i p q = differ cc
 
 start-cases : (b : Bool) (x y k : ℕ) → k ≤ x → k ≤ y → k ≤ elim b [ true ↦ x | false ↦ y ]
 start-cases true x y k p q = p

@@ -1,6 +1,6 @@
 -- An item's record form: kind, place, start, end. A span alone has its start as place; a place alone has start and end equal to it.
 use Prim.Native.Nat.{ℕ, _≤_}
-use Rattle.comment_parser.specs.declared.Span.{Span}
+use Rattle.basics.specs.declared.Span.{Span}
 use Rattle.comment_parser.specs.declared.Placed.{Placed}
 use Rattle.comment_parser.specs.declared.CommentItem.{CommentItem}
 use Rattle.comment_parser.specs.declared.CommentItem.the-variants.{Text, LineBreak, StartMathMode, EndMathMode, MathToken, Label, Url, StartHtml, EndHtml, StartSubscript, EndSubscript, StartItalic, EndItalic, BibTag}

@@ -9,7 +9,7 @@ use Rattle.byte_rules.specs.Reading.{Reading}
 use Rattle.look.specs.Look.{byteAt, blankAt, closerAt, italicOpenerAt, doubledAt, wordAt}
 use Rattle.scans.specs.Marks.{tick, tilde, lbracket, under, less, lf, space, openHtml, closeHtml}
 use Rattle.scans.specs.Ends.{blanksEnd, tagEnd, labelEnd, subscriptEnd, italicEnd, isUrl}
-use Rattle.scans.specs.declared.Place.the-variants.{At, Nowhere}
+use Rattle.basics.specs.declared.Place.the-variants.{At, Nowhere}
 use Rattle.comment_parser.specs.Item.{span}
 use Rattle.comment_parser.specs.State.{moved, inMath, inHtml, italicTo, subscriptTo}
 use Rattle.comment_parser.specs.declared.CommentItem.{CommentItem}

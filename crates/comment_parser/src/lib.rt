@@ -3,6 +3,7 @@ mod own;
 mod pass;
 mod rules;
 
+use basics::Span;
 use pass::read_on;
 use records::Checked;
 use records::Refusal;
@@ -16,11 +17,6 @@ ghost use Rattle.comment_parser.specs.Item.{placedOf};
 ghost use Rattle.comment_parser.specs.State.{moved, inMath, inHtml, italicTo, subscriptTo, fresh};
 ghost use Rattle.comment_parser.specs.Next.{stepAnswer, give, nextOf};
 ghost use Rattle.comment_parser.specs.Notes.{Answers};
-
-pub struct Span {
-    pub start: usize,
-    pub end: usize,
-}
 
 // An event of a comment: a text or token by its span, a mark by its place, a label or url by its tilde's place and its span.
 pub enum CommentItem {

@@ -6,14 +6,12 @@ use Prim.Native.Nat.{ℕ}
 use mathlib.Core.Bool.{Bool, true, false, cond, _||_}
 use mathlib.Core.List.{List}
 use mathlib.Core.Option.{Option, none, some}
-use native.Mathlib.Omega.{arith}
-use lib.Dec.{eqb, ltb}
+use lib.Dec.{ltb}
 use lib.ListN.{length}
+use Rattle.basics.proofs.Laws.{differ}
 use Rattle.byte_rules.specs.Reading.{rust}
 use Rattle.records.specs.Answer.{Answer, longest, tooLong, badSpan, badState, spanRefusal, stateRefusal}
-use Rattle.records.specs.declared.Refusal.{Refusal}
-use Rattle.records.specs.declared.Refusal.the-variants.{TooLong, BadSpan, BadState, BadTable, NoDate, BadMonth}
-use Rattle.records.proofs.Answers.{coincide, refusalBack, refusal-back}
+use Rattle.records.proofs.Answers.{coincide, readBack, refused-back}
 use Rattle.comment_parser.specs.State.{fresh}
 use Rattle.comment_parser.specs.Next as parser
 use Rattle.comment_parser.specs.declared.ParserState.{ParserState}
@@ -33,23 +31,18 @@ given : Option CommentItem → Step
 given (some i) = Event i
 given none = End
 
-back : parser.Step → Outcome
-back a = (cond (eqb (a .answer .number) 0) (given (a .event)) (Refused (refusalBack (a .answer))), a .state)
+outcomeOf : parser.Step → Outcome
+outcomeOf a = (readBack (λ values. given (a .event)) Refused (a .answer), a .state)
 
-same : (s : Step) (t : ParserState) → back (gives s t) ≡ (s, t)
-unfolding back given
+same : (s : Step) (t : ParserState) → outcomeOf (gives s t) ≡ (s, t)
+unfolding outcomeOf given
 same (Event i) t = refl
 same End t = refl
-same (Refused TooLong) t = ap (λ (r : Refusal). (Refused r, t)) (refusal-back TooLong)
-same (Refused BadSpan) t = ap (λ (r : Refusal). (Refused r, t)) (refusal-back BadSpan)
-same (Refused BadState) t = ap (λ (r : Refusal). (Refused r, t)) (refusal-back BadState)
-same (Refused (BadTable table entry)) t = ap (λ (r : Refusal). (Refused r, t)) (refusal-back (BadTable table entry))
-same (Refused NoDate) t = ap (λ (r : Refusal). (Refused r, t)) (refusal-back NoDate)
-same (Refused BadMonth) t = ap (λ (r : Refusal). (Refused r, t)) (refusal-back BadMonth)
+same (Refused r) t = ap (λ (s : Step). (s, t)) (refused-back (λ values. given none) Refused r)
 
 pub step-one : (a : parser.Step) (x y : Outcome) → gives (x .0) (x .1) ≡ a → gives (y .0) (y .1) ≡ a → x ≡ y
 unfolding answer
-step-one = coincide answer back (λ o. same (o .0) (o .1))
+step-one = coincide answer outcomeOf (λ o. same (o .0) (o .1))
 
 -- a refusal by the same tests gives no event, and leaves the state
 abbrev Still : Option Answer → ParserState → parser.Step → Type 0
@@ -58,7 +51,7 @@ Still r st n = let s : parser.Step = elim r [ some a ↦ record { answer = a; ev
 still : (p q : Bool) (x : Answer) (st : ParserState) (n : parser.Step) → cond p (some tooLong) (cond q (some badSpan) none) ≡ some x → Still (cond p (some tooLong) (cond q (some badState) none)) st n
 still true q x st n h = (refl, refl)
 still false true x st n h = (refl, refl)
-still false false x st n h = let z : _≡_ {A = ℕ} 0 1 = cc in absurd (omega arith)
+still false false x st n h = absurd (differ cc)
 
 -- the view of a span that is refused gives no event, and stays as it is
 pub refused-view : (buf : List ℕ) (a b : ℕ) (x : Answer) → spanRefusal (length buf) a b ≡ some x → (parser.nextOf rust buf (fresh a b) .event ≡ none) × (parser.nextOf rust buf (fresh a b) .state ≡ fresh a b)

@@ -7,6 +7,7 @@ use mathlib.Core.List.{List, [], _∷_, _++_, map}
 use mathlib.Core.Option.{Option, none, some}
 use native.Mathlib.Omega.{arith}
 use lib.ListN.{length, take, length-drop}
+use Rattle.basics.proofs.Laws.{differ}
 use Rattle.byte_rules.specs.Reading.{rust}
 use Rattle.records.specs.Records.{laid, used, wroteOf}
 use Rattle.records.specs.declared.Wrote.{Wrote}
@@ -126,7 +127,7 @@ module _ (buf out₀ : List ℕ) (a z : ℕ) where
           let now : Laying eventWidth (eventRecords buf a z) (recordsFrom buf st) out₀ out (done .words) (done .count) = rw g at (s .laying) in
           let no-more : recordsFrom buf st ≡ stepRecords r ++ [] = ap (map (eventRecord buf)) (events-end rust buf st n) ∙ ap (λ (ws : List (List ℕ)). ws ++ []) (sym none-laid) in
           let l : Laying eventWidth (eventRecords buf a z) [] out₀ last (after .words) (after .count) = laid-on (rw no-more at now) h in (
-            record { laying = rw o l; goes = λ x. let f : _≡_ {A = ℕ} 0 1 = cc in absurd (omega arith) },
+            record { laying = rw o l; goes = λ x. absurd (differ cc) },
             rw (o, g) (omega arith),
           )
 

@@ -9,8 +9,8 @@ use native.Mathlib.Omega.{arith}
 use borrow.Author.Tests.{eqb-true, leb-true}
 use lib.Dec.{eqb, leb}
 use lib.ListN.{getD, length}
+use Rattle.basics.proofs.Laws.{both}
 use Rattle.byte_rules.specs.Classes.{isBlank, isCloser}
-use Rattle.byte_rules.proofs.Laws.{both}
 use Rattle.look.specs.Look.{byteAt, blankAt, closerAt, wordAt}
 use Rattle.look.proofs.Laws.{byte-within, byte-is, blank-within, blank-is, closer-within, closer-is, word-byte}
 use Rattle.scans.specs.Marks.{space, lbracket}

@@ -7,6 +7,7 @@ use mathlib.Core.Option.{Option, none, some}
 use mathlib.Core.Path.{_≡_, refl}
 use native.Mathlib.Omega.{arith}
 use lib.ListN.{getD}
+use Rattle.basics.proofs.Laws.{differ}
 use Rattle.byte_rules.specs.Reading.{Reading}
 use Rattle.byte_rules.specs.Text.{bytes}
 use Rattle.byte_rules.specs.Classes.{isCloser}
@@ -14,7 +15,7 @@ use Rattle.scans.proofs.Laws.{clash}
 use Rattle.comment_parser.specs.Item.{span}
 use Rattle.comment_parser.specs.State.{fresh}
 use Rattle.comment_parser.specs.Events.{seen, eventsOf}
-use Rattle.comment_parser.specs.declared.Span.{Span}
+use Rattle.basics.specs.declared.Span.{Span}
 use Rattle.comment_parser.specs.declared.ParserState.{ParserState}
 use Rattle.comment_parser.specs.declared.CommentItem.{CommentItem}
 use Rattle.comment_parser.specs.declared.CommentItem.the-variants.{Text, StartMathMode, EndMathMode, MathToken, EndSubscript}
@@ -41,14 +42,14 @@ ahead-is (quote-at-start e z) r s q = q (omega arith)
 ahead-is (quote-after-blank e l k) r s q = q (omega arith)
 
 text-closes-not : {c : CommentItem} → Closing c → (x : Span) → c ≡ Text x → ⊥
-text-closes-not closes-math x e = let z : _≡_ {A = ℕ} 0 1 = cc in omega arith
-text-closes-not closes-label x e = let z : _≡_ {A = ℕ} 0 1 = cc in omega arith
-text-closes-not closes-url x e = let z : _≡_ {A = ℕ} 0 1 = cc in omega arith
+text-closes-not closes-math x e = differ cc
+text-closes-not closes-label x e = differ cc
+text-closes-not closes-url x e = differ cc
 
 next-not : {next : Option CommentItem} → TokenMarkOrEnd next → (p : ℕ) → next ≡ some (EndSubscript p) → ⊥
-next-not a-token p e = let z : _≡_ {A = ℕ} 0 1 = cc in omega arith
-next-not a-mark p e = let z : _≡_ {A = ℕ} 0 1 = cc in omega arith
-next-not the-end p e = let z : _≡_ {A = ℕ} 0 1 = cc in omega arith
+next-not a-token p e = differ cc
+next-not a-mark p e = differ cc
+next-not the-end p e = differ cc
 
 module _ {buf : List ℕ} {b : ℕ} where
   -- outside math nothing is dropped behind a text whose last byte is none of `(`, `[` and `"`

@@ -16,8 +16,8 @@ use Rattle.look.proofs.Laws.{doubled-within}
 use Rattle.scans.specs.Marks.{tick, tilde, lbracket, under, less, lf, openHtml, closeHtml}
 use Rattle.scans.specs.Scan.{scan}
 use Rattle.scans.specs.Ends.{blanksStep, blanksEnd, tagEnd, labelStep, labelEnd, subscriptEnd, italicEnd, isUrl}
-use Rattle.scans.specs.declared.Place.{Place}
-use Rattle.scans.specs.declared.Place.the-variants.{At, Nowhere}
+use Rattle.basics.specs.declared.Place.{Place}
+use Rattle.basics.specs.declared.Place.the-variants.{At, Nowhere}
 use Rattle.scans.proofs.Laws.{scan-ge, scan-le, clash}
 use Rattle.scans.proofs.TagLaws.{tag-in}
 use Rattle.scans.proofs.EndLaws.{tag-closed}

@@ -12,6 +12,7 @@ use borrow.Author.Tests.{ltb-true, ltb-false}
 use lib.Dec.{ltb}
 use lib.ListN.{length, take}
 use lib.Seq.{length-take-le, getD-take}
+use Rattle.basics.proofs.Laws.{differ}
 use Rattle.records.specs.Answer.{longest}
 use Rattle.byte_rules.specs.Reading.{Reading}
 use Rattle.look.specs.Look.{blankAt}
@@ -82,7 +83,7 @@ module _ (buf : List ℕ) (b : ℕ) (st : ParserState) where
     empty l (inr k) = let z : q ≡ r = omega (arith, k .starts) in rw (k .waits) (marked g past (rw z at (k .marks)) refl)
       where
         past : r < t .pos
-        past = ⊎-elim (λ l. l) (λ n. let f : _≡_ {A = ℕ} 0 1 = cc in absurd (omega arith)) (o .on)
+        past = ⊎-elim (λ l. l) (λ n. absurd (differ cc)) (o .on)
 
   turn : {s : List ℕ} → Cut s buf b → (rd : Reading) → st .pos ≤ b → Turn (readOn rd s st)
   unfolding readOn

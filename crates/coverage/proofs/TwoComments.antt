@@ -7,6 +7,7 @@ use mathlib.Core.Option.{Option, none, some}
 use mathlib.Core.Path.{_≡_, refl, sym, _∙_}
 use native.Mathlib.Omega.{arith}
 use lib.ListN.{getD}
+use Rattle.basics.proofs.Laws.{differ}
 use Rattle.comment_parser.specs.declared.CommentItem.{CommentItem}
 use Rattle.comment_parser.specs.declared.CommentItem.the-variants.{Text, LineBreak, StartMathMode, EndMathMode, MathToken, Label, Url, StartHtml, EndHtml, StartSubscript, EndSubscript, StartItalic, EndItalic, BibTag}
 use Rattle.coverage.specs.Demand3.{All, Some, this, later, ExactlyOne, here, there, What, text, mark, after-tilde, between, Piece, piece, Holds, whole, ends, inMathAfter, layout, Dropped, nothing, in-math, before-opening, after-closing, Reads, Says, Fits, Loose, loose-in-math, loose-after-tilde, SameText, Agree, same-byte, both-blank}
@@ -15,7 +16,7 @@ use Rattle.coverage.proofs.Tilings.{all-append}
 -- what is dropped outside math is one space
 pub outside-space : {buf : List ℕ} {b : ℕ} {m : Bool} {prev next : Option CommentItem} {i j : ℕ} → Dropped buf b m prev next i j → m ≡ false → (p : ℕ) → i ≤ p → p < j → getD buf p 0 ≡ 32
 outside-space nothing h p l u = absurd (omega arith)
-outside-space (in-math n) h p l u = let z : _≡_ {A = ℕ} 0 1 = cc in absurd (omega arith)
+outside-space (in-math n) h p l u = absurd (differ cc)
 outside-space (before-opening {i = i} k) h p l u = let n = k .one in let z : p ≡ i = omega arith in rw z (k .space)
 outside-space (after-closing {i = i} k) h p l u = let n = k .one in let z : p ≡ i = omega arith in rw z (k .space)
 
@@ -54,13 +55,13 @@ module _ (s t : List ℕ) (b : ℕ) where
   no-text n w = absurd (n w)
 
   mark-not : (bs : List ℕ) → mark bs ≡ text → ⊥
-  mark-not bs e = let z : _≡_ {A = ℕ} 0 1 = cc in omega arith
+  mark-not bs e = differ cc
 
   tilde-not : after-tilde ≡ text → ⊥
-  tilde-not e = let z : _≡_ {A = ℕ} 0 1 = cc in omega arith
+  tilde-not e = differ cc
 
   between-not : (m : Bool) (prev next : Option CommentItem) → between m prev next ≡ text → ⊥
-  between-not m prev next e = let z : _≡_ {A = ℕ} 0 1 = cc in omega arith
+  between-not m prev next e = differ cc
 
   whole-texts : (c : CommentItem) → SameText s t c → All SameIn (whole c)
   whole-texts (Text x) h = (λ _. h, tt)

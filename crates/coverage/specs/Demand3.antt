@@ -17,7 +17,7 @@ use Rattle.comment_parser.specs.Item.{placedOf}
 use Rattle.comment_parser.specs.State.{fresh}
 use Rattle.comment_parser.specs.Next.{nextOf}
 use Rattle.comment_parser.specs.Events.{eventsOf}
-use Rattle.comment_parser.specs.declared.Span.{Span}
+use Rattle.basics.specs.declared.Span.{Span}
 use Rattle.comment_parser.specs.declared.ParserState.{ParserState}
 use Rattle.comment_parser.specs.declared.CommentItem.{CommentItem}
 use Rattle.comment_parser.specs.declared.CommentItem.the-variants.{Text, LineBreak, StartMathMode, EndMathMode, MathToken, Label, Url, StartHtml, EndHtml, StartSubscript, EndSubscript, StartItalic, EndItalic, BibTag}

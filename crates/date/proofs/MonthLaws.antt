@@ -8,7 +8,7 @@ use native.Mathlib.Omega.{arith}
 use native.Mathlib.Nat.{eq-or-lt-of-le}
 use lib.Dec.{eqb}
 use borrow.Author.Tests.{eqb-true}
-use Rattle.byte_rules.proofs.Laws.{both}
+use Rattle.basics.proofs.Laws.{both, differ}
 use Rattle.date.specs.Months.{names, letterOf, isMonthName, monthIn, monthOf}
 use Rattle.date.specs.declared.reading.Number.{Number}
 use Rattle.date.specs.declared.reading.Number.the-variants.{Is, No}
@@ -33,7 +33,7 @@ module _ (m a b c : ℕ) where
 -- a month that is named is at most 12
 in-most : (k m a b c r : ℕ) → monthIn k m a b c ≡ Is r → r < m + k
 unfolding monthIn
-in-most zero m a b c r e = let z : _≡_ {A = ℕ} 0 1 = cc in absurd (omega arith)
+in-most zero m a b c r e = absurd (differ cc)
 in-most (suc k) m a b c r e = go (isMonthName m a b c) refl (in-most k (m + 1) a b c r)
   where
     go : (t : Bool) → isMonthName m a b c ≡ t → (monthIn k (m + 1) a b c ≡ Is r → r < m + 1 + k) → r < m + suc k

@@ -11,6 +11,7 @@ use lib.Dec.{eqb, lit<}
 use lib.ListN.{length, getD, drop, drop-of-length-le}
 use lib.Seq.{drop-cons}
 use borrow.Author.Tests.{eq-eqb, ne-eqb}
+use Rattle.basics.proofs.Laws.{differ}
 use Rattle.byte_rules.specs.Classes.{isDigit}
 use Rattle.byte_rules.proofs.Laws.{digit-is}
 use Rattle.date.specs.Numbers.{digitsOn, digits, number}
@@ -77,16 +78,16 @@ on-below (b ∷ s) i n m h e = go (isDigit b) refl (on-below s (i + 1) (n * 10 +
     go true t ih =
         let r : i + suc (length s) ≡ i + 1 + length s = omega arith in
         rw r (ih (ten-more i n (b - 48) h (omega (arith, digit-is b t))) (rw t at e))
-    go false t ih = let f : No ≡ Is m = rw t at e in let z : _≡_ {A = ℕ} 0 1 = cc in absurd (omega arith)
+    go false t ih = let f : No ≡ Is m = rw t at e in absurd (differ cc)
 
 digits-below : (s : List ℕ) (m : ℕ) → digits s ≡ Is m → m < 10 ^ length s
 unfolding digits
-digits-below [] m e = let z : _≡_ {A = ℕ} 0 1 = cc in absurd (omega arith)
+digits-below [] m e = absurd (differ cc)
 digits-below (b ∷ s) m e = rw zero-add at (on-below (b ∷ s) 0 0 m (lit< tt) e)
 
 pub number-below : (s : List ℕ) (m : ℕ) → number s ≡ Is m → m < 10 ^ length s
 unfolding number
-number-below [] m e = let z : _≡_ {A = ℕ} 0 1 = cc in absurd (omega arith)
+number-below [] m e = absurd (differ cc)
 number-below (b ∷ s) m e = go (eqb b 43) refl
   where
     go : (t : Bool) → eqb b 43 ≡ t → m < 10 ^ suc (length s)

@@ -11,24 +11,26 @@ use mathlib.Core.Bool.{Bool, true, false, cond}
 use mathlib.Core.Logic.{_⊎_, inl, inr, ⊎-elim}
 use native.Mathlib.Omega.{arith}
 use lib.Dec.{ltb, eqb}
+use lib.ListN.{getD}
 use borrow.Author.Tests.{lt-ltb, le-ltb, ltb-true, ltb-false}
+use Rattle.records.specs.Answer.{Answer}
 use Rattle.records.proofs.Answers.{coincide}
-use Rattle.date.specs.Ordering.{orderNumber, firstOf, order}
+use Rattle.date.specs.Ordering.{orderAnswer, firstOf, order}
 use Rattle.date.specs.declared.Date.{Date}
 use Rattle.date.specs.declared.Order.{Order}
 use Rattle.date.specs.declared.Order.the-variants.{Earlier, Equal, Later}
 
-orderBack : ℕ → Order
-orderBack n = cond (eqb n 1) Earlier (cond (eqb n 2) Equal Later)
+orderBack : Answer → Order
+orderBack a = let n = getD (a .values) 0 0 in cond (eqb n 1) Earlier (cond (eqb n 2) Equal Later)
 
-order-back : (r : Order) → orderBack (orderNumber r) ≡ r
+order-back : (r : Order) → orderBack (orderAnswer r) ≡ r
 unfolding orderBack
 order-back Earlier = refl
 order-back Equal = refl
 order-back Later = refl
 
-pub order-one : (n : ℕ) (x y : Order) → orderNumber x ≡ n → orderNumber y ≡ n → x ≡ y
-order-one = coincide orderNumber orderBack order-back
+pub order-one : (a : Answer) (x y : Order) → orderAnswer x ≡ a → orderAnswer y ≡ a → x ≡ y
+order-one = coincide orderAnswer orderBack order-back
 
 -- by one number, before the rest: smaller, equal, and what an answer tells
 first-less : (a b rest : ℕ) → a < b → firstOf a b rest ≡ 1

@@ -10,6 +10,7 @@ use lib.Dec.{ltb, eqb}
 use lib.ListN.{length, getD, take, drop, replicate, length-append}
 use lib.Seq.{take-at, drop-append-add, getD-append-add}
 use borrow.Author.Tests.{ltb-true, ltb-false, eqb-true}
+use Rattle.basics.proofs.Laws.{differ}
 use Rattle.byte_rules.specs.Classes.{isDigit}
 use Rattle.byte_rules.proofs.Laws.{digit-is, digit-holds}
 use Rattle.decimal.specs.Decimal.{decimal}
@@ -38,7 +39,7 @@ on-snoc (b ∷ s) a n x h e = go (isDigit b) refl (on-snoc s (a * 10 + (b - 48))
         → (digitsOn (a * 10 + (b - 48)) s ≡ Is n → digitsOn (a * 10 + (b - 48)) (s ++ ((48 + x) ∷ [])) ≡ Is (n * 10 + x))
         → digitsOn a (b ∷ s ++ ((48 + x) ∷ [])) ≡ Is (n * 10 + x)
     go true t ih = rw t (ih (rw t at e))
-    go false t ih = let f : No ≡ Is n = rw t at e in let z : _≡_ {A = ℕ} 0 1 = cc in absurd (omega arith)
+    go false t ih = let f : No ≡ Is n = rw t at e in absurd (differ cc)
 
 on-one : (n : ℕ) → n ≤ 9 → digitsOn 0 ((48 + n) ∷ []) ≡ Is n
 unfolding digitsOn
@@ -71,7 +72,7 @@ on-number (b ∷ s) n h e = go (eqb b 43) (isDigit b) refl refl
     go : (plus digit : Bool) → eqb b 43 ≡ plus → isDigit b ≡ digit → number (b ∷ s) ≡ Is n
     go false digit p d = rw p e
     go true true p d = absurd (omega (arith, eqb-true b 43 p, digit-is b d))
-    go true false p d = let f : No ≡ Is n = rw d at e in let z : _≡_ {A = ℕ} 0 1 = cc in absurd (omega arith)
+    go true false p d = let f : No ≡ Is n = rw d at e in absurd (differ cc)
 
 number-decimal : (n : ℕ) → number (decimal n) ≡ Is n
 number-decimal n = on-number (decimal n) n (length-some n) (on-decimal (suc n) n (omega arith))

@@ -11,8 +11,8 @@ use lib.ListN.{length, set, replicate, length-append, length-replicate, replicat
 use borrow.Author.Tests.{eqb-false, ltb-false}
 use Rattle.records.specs.Answer.{badMonth}
 use Rattle.decimal.specs.Decimal.{decimal}
-use Rattle.decimal.specs.Over.{over}
-use Rattle.decimal.proofs.Over.{over-more}
+use Rattle.records.specs.Over.{over}
+use Rattle.records.proofs.Over.{over-more}
 use Rattle.date.specs.Writing.{monthText, yearText, dateText, writeRefusal}
 use Rattle.date.specs.declared.Date.{Date}
 

@@ -1,16 +1,11 @@
 -- The numbers of a date, as their bytes are read (document 01, "Credits and dates").
-use Prim.Native.Nat.{ℕ, _+_, _-_, _*_, _<_}
-use mathlib.Core.Path.{_≡_}
+use Prim.Native.Nat.{ℕ, _+_, _-_, _*_}
 use mathlib.Core.List.{List, [], _∷_}
 use mathlib.Core.Bool.{cond}
 use lib.Dec.{eqb}
 use Rattle.byte_rules.specs.Classes.{isDigit}
 use Rattle.date.specs.declared.reading.Number.{Number}
 use Rattle.date.specs.declared.reading.Number.the-variants.{Is, No}
-
--- what was read, if it is a number, is below k
-abbrev pub Below : ℕ → Number → Type 0
-Below k r = (n : ℕ) → r ≡ Is n → n < k
 
 -- the number that digits continue, of which n is read so far
 unfoldable pub digitsOn : ℕ → List ℕ → Number

@@ -6,7 +6,8 @@ use byte_rules::is_digit;
 ghost use mathlib.Core.Path.{_≡_};
 ghost use Prim.Native.Nat.{_+_, _≤_};
 ghost use lib.ListN.{length};
-ghost use Rattle.date.specs.Numbers.{Below, digits, number};
+ghost use Rattle.date.specs.Bounds.{Below};
+ghost use Rattle.date.specs.Numbers.{digits, number};
 ghost use Rattle.date.specs.Months.{isMonthName, monthOf};
 ghost use Rattle.date.specs.Reading.{dateOf, fields, dateAnswer, readAnswer};
 

@@ -10,7 +10,7 @@ ghost use Prim.Native.Nat.{_≤_};
 ghost use lib.ListN.{length};
 ghost use Rattle.records.specs.Answer.{filledAnswer};
 ghost use Rattle.records.specs.Records.{textAnswer, textLeft};
-ghost use Rattle.decimal.specs.Over.{over};
+ghost use Rattle.records.specs.Over.{over};
 ghost use Rattle.date.specs.Writing.{monthText, yearText, dateText, writeRefusal};
 
 // How many bytes a year takes.

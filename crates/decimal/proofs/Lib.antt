@@ -1,3 +1,2 @@
 -- The laws that the crates above use.
 pub mod Laws
-pub mod Over

@@ -7,7 +7,7 @@ ghost use lib.ListN.{length};
 ghost use Rattle.records.specs.Answer.{filledAnswer};
 ghost use Rattle.records.specs.Records.{textAnswer, textLeft};
 ghost use Rattle.decimal.specs.Decimal.{decimal};
-ghost use Rattle.decimal.specs.Over.{over};
+ghost use Rattle.records.specs.Over.{over};
 
 // How many digits n is written with.
 pub fn decimal_len(n: u64) -> usize

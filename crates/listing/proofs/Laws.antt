@@ -8,9 +8,9 @@ use native.Mathlib.Numerals.{add-one}
 use lib.ListN.{length, getD, set, take, drop, length-append, take-append-drop}
 use lib.Seq.{length-take-le, take-suc, take-all, take-at, drop-append-add, drop-drop}
 use borrow.Rule.Slice.PartMut.{midOf, putMid}
-use Rattle.decimal.specs.Over.{over}
+use Rattle.records.specs.Over.{over}
 use Rattle.decimal.proofs.Laws.{length-below}
-use Rattle.decimal.proofs.Over.{over-more, over-then}
+use Rattle.records.proofs.Over.{over-more, over-then}
 use Rattle.listing.specs.Line.{field, Put}
 
 -- what a room holds already

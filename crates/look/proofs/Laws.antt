@@ -10,9 +10,10 @@ use borrow.Author.Tests.{le-ltb, lt-ltb, ltb-true, ltb-false, eqb-true, ne-eqb}
 use lib.Dec.{ltb, eqb}
 use lib.ListN.{length, drop, getD, length-drop, drop-of-length-le}
 use lib.Seq.{drop-cons, getD-drop}
+use Rattle.basics.proofs.Laws.{both}
 use Rattle.byte_rules.specs.Classes.{isBlank, isCloser}
 use Rattle.byte_rules.specs.Reading.{barsNothing}
-use Rattle.byte_rules.proofs.Laws.{both, nothing-barred}
+use Rattle.byte_rules.proofs.Laws.{nothing-barred}
 use Rattle.look.specs.Look.{holdsAt, isByte, byteAt, blankAt, alphanumericAt, closerAt, doubledAt, wordAt}
 
 -- any test, of which the tests by place are instances

@@ -4,16 +4,16 @@
 --     known-one         two outcomes of a lookup that its contract permits coincide
 -- Assumes nothing.
 use Prim.Native.Nat.{ℕ, _<_}
-use mathlib.Core.Path.{_≡_, refl, ap}
+use mathlib.Core.Path.{_≡_, refl}
 use mathlib.Core.Bool.{cond}
 use mathlib.Core.List.{List}
 use mathlib.Core.Option.{none}
 use native.Mathlib.Omega.{arith}
 use lib.Dec.{eqb}
 use lib.ListN.{length, getD}
+use Rattle.basics.proofs.Laws.{differ}
 use Rattle.records.specs.Answer.{Answer}
-use Rattle.records.specs.declared.Refusal.the-variants.{TooLong, BadSpan, BadState, BadTable, NoDate, BadMonth}
-use Rattle.records.proofs.Answers.{coincide, refusalBack, refusal-back}
+use Rattle.records.proofs.Answers.{coincide, readBack, refused-back}
 use Rattle.name_table.specs.Table.{nameAt, firstBad, refusedAt, tableRefusal}
 use Rattle.name_table.specs.Search.{entryOf, searched}
 use Rattle.name_table.specs.Lookup.{knownAnswer}
@@ -35,24 +35,19 @@ module _ (bytes ends name : List ℕ) where
   -- a table that is not refused has no bad entry
   not-refused : (table : ℕ) (e : Entry) → none ≡ refusedAt table e → e ≡ Nothing
   not-refused table Nothing h = refl
-  not-refused table (At i) h = let z : _≡_ {A = ℕ} 0 1 = cc in absurd (omega arith)
+  not-refused table (At i) h = absurd (differ cc)
 
   pub searched-good : (table : ℕ) → none ≡ tableRefusal table bytes ends → searched bytes ends name ≡ entryOf bytes ends name
   searched-good table h = searched-walked bytes ends name (sorted bytes ends (not-refused table (firstBad bytes ends) h))
 
-knownBack : Answer → Known
-knownBack a = cond (eqb (a .number) 0) (cond (eqb (getD (a .values) 0 0) 1) Yes No) (Refused (refusalBack a))
+knownBack : List ℕ → Known
+knownBack values = cond (eqb (getD values 0 0) 1) Yes No
 
-known-back : (r : Known) → knownBack (knownAnswer r) ≡ r
+known-back : (r : Known) → readBack knownBack Refused (knownAnswer r) ≡ r
 unfolding knownBack
 known-back Yes = refl
 known-back No = refl
-known-back (Refused TooLong) = ap Refused (refusal-back TooLong)
-known-back (Refused BadSpan) = ap Refused (refusal-back BadSpan)
-known-back (Refused BadState) = ap Refused (refusal-back BadState)
-known-back (Refused (BadTable table entry)) = ap Refused (refusal-back (BadTable table entry))
-known-back (Refused NoDate) = ap Refused (refusal-back NoDate)
-known-back (Refused BadMonth) = ap Refused (refusal-back BadMonth)
+known-back (Refused why) = refused-back knownBack Refused why
 
 pub known-one : (a : Answer) (x y : Known) → knownAnswer x ≡ a → knownAnswer y ≡ a → x ≡ y
-known-one = coincide knownAnswer knownBack known-back
+known-one = coincide knownAnswer (readBack knownBack Refused) known-back

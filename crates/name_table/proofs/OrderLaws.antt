@@ -7,6 +7,7 @@ use Prim.Native.Nat.{ℕ, _<_}
 use native.Mathlib.Omega.{arith}
 use lib.Dec.{ltb}
 use borrow.Author.Tests.{lt-ltb, le-ltb, ltb-true, ltb-false}
+use Rattle.basics.proofs.Laws.{differ}
 use Rattle.name_table.specs.Order.{orderOf}
 use Rattle.name_table.specs.declared.Order.{Order}
 use Rattle.name_table.specs.declared.Order.the-variants.{Less, Same, More}
@@ -41,7 +42,7 @@ heads x y = go (ltb x y) (ltb y x) refl refl
 
 -- no order is two at once
 pub never : {A : Type 0} (o : Order) → o ≡ Less → o ≡ More → A
-never o p q = let z : _≡_ {A = ℕ} 0 1 = cc in absurd (omega arith)
+never o p q = absurd (differ cc)
 
 -- the order seen from the other side
 abbrev pub flip : Order → Order
@@ -70,22 +71,22 @@ order-refl (x ∷ xs) = order-equal {x = x} {y = x} xs xs refl ∙ order-refl xs
 pub order-same : (a b : List ℕ) → orderOf a b ≡ Same → a ≡ b
 unfolding orderOf
 order-same [] [] e = refl
-order-same [] (y ∷ ys) e = let z : _≡_ {A = ℕ} 0 1 = cc in absurd (omega arith)
-order-same (x ∷ xs) [] e = let z : _≡_ {A = ℕ} 0 1 = cc in absurd (omega arith)
+order-same [] (y ∷ ys) e = absurd (differ cc)
+order-same (x ∷ xs) [] e = absurd (differ cc)
 order-same (x ∷ xs) (y ∷ ys) e = go (heads x y) (order-same xs ys)
   where
     go : Heads x y → (orderOf xs ys ≡ Same → xs ≡ ys) → x ∷ xs ≡ y ∷ ys
-    go (lower h) ih = let z : _≡_ {A = ℕ} 0 1 = cc (e, order-lower xs ys h) in absurd (omega arith)
+    go (lower h) ih = absurd (differ (cc (e, order-lower xs ys h)))
     go (equal h) ih = let t : xs ≡ ys = ih (sym (order-equal xs ys h) ∙ e) in cc
-    go (higher h) ih = let z : _≡_ {A = ℕ} 0 1 = cc (e, order-higher xs ys h) in absurd (omega arith)
+    go (higher h) ih = absurd (differ (cc (e, order-higher xs ys h)))
 
 pub order-trans : (a b c : List ℕ) → orderOf a b ≡ Less → orderOf b c ≡ Less → orderOf a c ≡ Less
 unfolding orderOf
 order-trans [] [] c p q = q
-order-trans [] (y ∷ ys) [] p q = let z : _≡_ {A = ℕ} 0 1 = cc in absurd (omega arith)
+order-trans [] (y ∷ ys) [] p q = absurd (differ cc)
 order-trans [] (y ∷ ys) (z ∷ zs) p q = refl
-order-trans (x ∷ xs) [] c p q = let z : _≡_ {A = ℕ} 0 1 = cc in absurd (omega arith)
-order-trans (x ∷ xs) (y ∷ ys) [] p q = let z : _≡_ {A = ℕ} 0 1 = cc in absurd (omega arith)
+order-trans (x ∷ xs) [] c p q = absurd (differ cc)
+order-trans (x ∷ xs) (y ∷ ys) [] p q = absurd (differ cc)
 order-trans (x ∷ xs) (y ∷ ys) (z ∷ zs) p q = go (heads x y) (heads y z) (order-trans xs ys zs)
   where
     go : Heads x y → Heads y z → (orderOf xs ys ≡ Less → orderOf ys zs ≡ Less → orderOf xs zs ≡ Less) → orderOf (x ∷ xs) (z ∷ zs) ≡ Less

@@ -11,6 +11,7 @@ use native.Mathlib.Omega.{arith}
 use lib.Dec.{ltb}
 use lib.ListN.{length}
 use borrow.Author.Tests.{lt-ltb, le-ltb}
+use Rattle.basics.proofs.Laws.{differ}
 use Rattle.name_table.specs.Order.{orderOf, isLess, isSame}
 use Rattle.name_table.specs.Table.{endOf, startOf, nameAt, notGreater, badAt, badFrom, firstBad}
 use Rattle.name_table.specs.Search.{turned, entryFrom, entryOf, middle, halved, searched}
@@ -26,14 +27,14 @@ abbrev pub Sorted : List ℕ → List ℕ → Type 0
 Sorted bytes ends = (j k : ℕ) → j < k → k < length ends → orderOf (nameAt bytes ends j) (nameAt bytes ends k) ≡ Less
 
 last-false : (a b c : Bool) → (a || b || c) ≡ false → c ≡ false
-last-false true b c e = let z : _≡_ {A = ℕ} 0 1 = cc in absurd (omega arith)
-last-false false true c e = let z : _≡_ {A = ℕ} 0 1 = cc in absurd (omega arith)
+last-false true b c e = absurd (differ cc)
+last-false false true c e = absurd (differ cc)
 last-false false false c e = e
 
 less-is : (o : Order) → not (isLess o) ≡ false → o ≡ Less
 less-is Less e = refl
-less-is Same e = let z : _≡_ {A = ℕ} 0 1 = cc in absurd (omega arith)
-less-is More e = let z : _≡_ {A = ℕ} 0 1 = cc in absurd (omega arith)
+less-is Same e = absurd (differ cc)
+less-is More e = absurd (differ cc)
 
 module _ (bytes ends : List ℕ) where
   -- where the check finds nothing, no entry is bad
@@ -44,7 +45,7 @@ module _ (bytes ends : List ℕ) where
     where
       go : (b : Bool) → badAt bytes ends i ≡ b → cond b (At i) (badFrom bytes ends left (suc i)) ≡ Nothing → (i ≡ k) ⊎ (i < k)
           → (badFrom bytes ends left (suc i) ≡ Nothing → (m : ℕ) → suc i ≤ m → m < suc i + left → badAt bytes ends m ≡ false) → badAt bytes ends k ≡ false
-      go true g e′ o ih = let z : _≡_ {A = ℕ} 0 1 = cc in absurd (omega arith)
+      go true g e′ o ih = absurd (differ cc)
       go false g e′ (inl h) ih = rw h at g
       go false g e′ (inr h) ih = ih e′ k h (omega arith)
 
@@ -89,7 +90,7 @@ module _ (bytes ends name : List ℕ) where
   -- an entry that the walk gives has the name; where it gives none, none has it
   pub walked : (left i m : ℕ) → entryFrom bytes ends name left i ≡ At m → (m < i + left) × (nameAt bytes ends m ≡ name)
   unfolding entryFrom
-  walked zero i m e = let z : _≡_ {A = ℕ} 0 1 = cc in absurd (omega arith)
+  walked zero i m e = absurd (differ cc)
   walked (suc left) i m e = go (orderOf (nameAt bytes ends i) name) refl e (walked left (suc i) m)
     where
       go : (o : Order) → Stands i o → cond (isSame o) (At i) (entryFrom bytes ends name left (suc i)) ≡ At m
@@ -105,9 +106,9 @@ module _ (bytes ends name : List ℕ) where
     where
       go : (o : Order) → Stands i o → cond (isSame o) (At i) (entryFrom bytes ends name left (suc i)) ≡ Nothing → (i ≡ k) ⊎ (i < k)
           → (entryFrom bytes ends name left (suc i) ≡ Nothing → (m : ℕ) → suc i ≤ m → m < suc i + left → nameAt bytes ends m ≡ name → ⊥) → ⊥
-      go Same s e′ o ih = let z : _≡_ {A = ℕ} 0 1 = cc in omega arith
-      go Less s e′ (inl h) ih = let r = order-refl name in let z : _≡_ {A = ℕ} 0 1 = cc in omega arith
-      go More s e′ (inl h) ih = let r = order-refl name in let z : _≡_ {A = ℕ} 0 1 = cc in omega arith
+      go Same s e′ o ih = differ cc
+      go Less s e′ (inl h) ih = let r = order-refl name in differ cc
+      go More s e′ (inl h) ih = let r = order-refl name in differ cc
       go Less s e′ (inr h) ih = ih e′ k h (omega arith) n
       go More s e′ (inr h) ih = ih e′ k h (omega arith) n
 

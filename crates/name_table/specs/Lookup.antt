@@ -2,8 +2,7 @@
 use Prim.Native.Nat.{ℕ}
 use mathlib.Core.Bool.{cond}
 use mathlib.Core.List.{List}
-use mathlib.Core.Option.{Option, none, some}
-use Rattle.records.specs.Answer.{Answer, done, refusalAnswer}
+use Rattle.records.specs.Answer.{Answer, done, unless, refusalAnswer}
 use Rattle.name_table.specs.Table.{tableRefusal}
 use Rattle.name_table.specs.Search.{isIn}
 use Rattle.name_table.specs.declared.Known.{Known}
@@ -14,10 +13,5 @@ knownAnswer Yes = done 1
 knownAnswer No = done 0
 knownAnswer (Refused why) = refusalAnswer why
 
--- the refusal, if there is one
-abbrev pub unless : Option Answer → Answer → Answer
-unless (some refusal) answer = refusal
-unless none answer = answer
-
 abbrev pub lookupAnswer : List ℕ → List ℕ → List ℕ → Answer
-lookupAnswer bytes ends name = unless (tableRefusal 1 bytes ends) (done (cond (isIn bytes ends name) 1 0))
+lookupAnswer bytes ends name = unless (tableRefusal 1 bytes ends) (λ a. a) (done (cond (isIn bytes ends name) 1 0))

@@ -1,15 +1,13 @@
 -- Each answer is told by its number and values: two outcomes that a contract permits coincide.
 -- Assumes nothing.
 use Prim.Native.Nat.{ℕ}
-use mathlib.Core.Path.{_≡_, refl, ap}
+use mathlib.Core.Path.{_≡_, refl}
 use mathlib.Core.Bool.{Bool, true, false, cond}
 use mathlib.Core.List.{List, [], _∷_}
 use lib.Dec.{eqb}
 use lib.ListN.{getD}
-use Rattle.records.specs.Answer.{Answer, refusalAnswer}
-use Rattle.records.specs.declared.Refusal.{Refusal}
-use Rattle.records.specs.declared.Refusal.the-variants.{TooLong, BadSpan, BadState, BadTable, NoDate, BadMonth}
-use Rattle.records.proofs.Answers.{coincide, refusalBack, refusal-back}
+use Rattle.records.specs.Answer.{Answer}
+use Rattle.records.proofs.Answers.{coincide, readBack, refused-back}
 use Rattle.parentheticals.specs.Matching.{span}
 use Rattle.parentheticals.specs.Answers.{fresh, startedAnswer, stepAnswer, flaggedAnswer}
 use Rattle.parentheticals.specs.declared.Span.{Span}
@@ -22,32 +20,18 @@ use Rattle.parentheticals.specs.declared.Step.the-variants as step
 use Rattle.parentheticals.specs.declared.Flagged.{Flagged}
 use Rattle.parentheticals.specs.declared.Flagged.the-variants as flagged
 
--- an outcome from its answer: a refusal by its number, else from the values
-back : {A : Type 0} → (List ℕ → A) → (Refusal → A) → Answer → A
-back given refused a = cond (eqb (a .number) 0) (given (a .values)) (refused (refusalBack a))
-
--- that a refusal comes back is the same for each
-refused-back : {A : Type 0} (given : List ℕ → A) (refused : Refusal → A) (r : Refusal) → back given refused (refusalAnswer r) ≡ refused r
-unfolding back
-refused-back given refused TooLong = ap refused (refusal-back TooLong)
-refused-back given refused BadSpan = ap refused (refusal-back BadSpan)
-refused-back given refused BadState = ap refused (refusal-back BadState)
-refused-back given refused (BadTable table entry) = ap refused (refusal-back (BadTable table entry))
-refused-back given refused NoDate = ap refused (refusal-back NoDate)
-refused-back given refused BadMonth = ap refused (refusal-back BadMonth)
-
 -- ---- the fresh state
 
 startedBack : List ℕ → Started
 startedBack values = started.Ready (fresh (getD values 0 0) (getD values 1 0))
 
-started-back : (r : Started) → back startedBack started.Refused (startedAnswer r) ≡ r
-unfolding back startedBack
+started-back : (r : Started) → readBack startedBack started.Refused (startedAnswer r) ≡ r
+unfolding startedBack
 started-back (started.Ready st) = refl
 started-back (started.Refused r) = refused-back startedBack started.Refused r
 
 pub started-one : (a : Answer) (x y : Started) → startedAnswer x ≡ a → startedAnswer y ≡ a → x ≡ y
-started-one = coincide startedAnswer (back startedBack started.Refused) started-back
+started-one = coincide startedAnswer (readBack startedBack started.Refused) started-back
 
 -- ---- a step
 
@@ -67,11 +51,11 @@ stepBack (k ∷ w) =
       item = itemBack k (span (getD w 2 0) (getD w 3 0)) (span (getD w 4 0) (getD w 5 0));
     })
 
-step-back : (r : Step) → back stepBack step.Refused (stepAnswer r) ≡ r
-unfolding back stepBack itemBack
+step-back : (r : Step) → readBack stepBack step.Refused (stepAnswer r) ≡ r
+unfolding stepBack itemBack
 step-back (step.Next f) = go (f .whole) (f .item)
   where
-    go : (whole : Span) (item : Parenthetical) → back stepBack step.Refused (stepAnswer (step.Next (record { whole = whole; item = item }))) ≡ step.Next (record { whole = whole; item = item })
+    go : (whole : Span) (item : Parenthetical) → readBack stepBack step.Refused (stepAnswer (step.Next (record { whole = whole; item = item }))) ≡ step.Next (record { whole = whole; item = item })
     go whole (ContributedBy author date) = refl
     go whole (RevisedBy author date) = refl
     go whole (ProofShortenedBy author date) = refl
@@ -81,7 +65,7 @@ step-back step.End = refl
 step-back (step.Refused r) = refused-back stepBack step.Refused r
 
 pub step-one : (a : Answer) (x y : Step) → stepAnswer x ≡ a → stepAnswer y ≡ a → x ≡ y
-step-one = coincide stepAnswer (back stepBack step.Refused) step-back
+step-one = coincide stepAnswer (readBack stepBack step.Refused) step-back
 
 -- ---- the flags
 
@@ -89,12 +73,12 @@ flaggedBack : List ℕ → Flagged
 flaggedBack values =
     flagged.Flags (record { «modification_discouraged» = eqb (getD values 0 0) 1; «usage_discouraged» = eqb (getD values 1 0) 1 })
 
-flagged-back : (r : Flagged) → back flaggedBack flagged.Refused (flaggedAnswer r) ≡ r
-unfolding back flaggedBack
+flagged-back : (r : Flagged) → readBack flaggedBack flagged.Refused (flaggedAnswer r) ≡ r
+unfolding flaggedBack
 flagged-back (flagged.Flags d) = go (d .«modification_discouraged») (d .«usage_discouraged»)
   where
     go : (m u : Bool)
-        → back flaggedBack flagged.Refused (flaggedAnswer (flagged.Flags (record { «modification_discouraged» = m; «usage_discouraged» = u })))
+        → readBack flaggedBack flagged.Refused (flaggedAnswer (flagged.Flags (record { «modification_discouraged» = m; «usage_discouraged» = u })))
         ≡ flagged.Flags (record { «modification_discouraged» = m; «usage_discouraged» = u })
     go true true = refl
     go true false = refl
@@ -103,4 +87,4 @@ flagged-back (flagged.Flags d) = go (d .«modification_discouraged») (d .«usag
 flagged-back (flagged.Refused r) = refused-back flaggedBack flagged.Refused r
 
 pub flagged-one : (a : Answer) (x y : Flagged) → flaggedAnswer x ≡ a → flaggedAnswer y ≡ a → x ≡ y
-flagged-one = coincide flaggedAnswer (back flaggedBack flagged.Refused) flagged-back
+flagged-one = coincide flaggedAnswer (readBack flaggedBack flagged.Refused) flagged-back

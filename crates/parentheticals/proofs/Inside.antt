@@ -10,6 +10,7 @@ use lib.Dec.{ltb, eqb}
 use lib.ListN.{length, getD, drop, length-drop}
 use lib.Seq.{getD-drop}
 use borrow.Author.Tests.{ltb-true}
+use Rattle.basics.proofs.Laws.{differ}
 use Rattle.byte_rules.specs.Text.{bytes}
 use Rattle.byte_rules.specs.Classes.{isCreditSpace}
 use Rattle.byte_rules.proofs.Laws.{comma-no-space}
@@ -18,7 +19,7 @@ use Rattle.look.proofs.Laws.{holds-within, byte-within, byte-is}
 use Rattle.parentheticals.specs.Fields.{spaceRun, spaceEnd, spacesAt, signAt, phraseAt, fits, pictureAt, dateAt, authorStart}
 
 pub never : {A B : Type 0} {b : B} → none ≡ some b → A
-never e = let z : _≡_ {A = ℕ} 0 1 = cc in absurd (omega arith)
+never e = absurd (differ cc)
 
 -- ---- spaces
 

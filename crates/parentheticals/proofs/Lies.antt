@@ -9,10 +9,11 @@ use native.Mathlib.Omega.{arith}
 use lib.Dec.{eqb}
 use borrow.Author.Tests.{eqb-true, eqb-false}
 use lib.ListN.{length}
+use Rattle.basics.specs.Choice.{orElse}
 use Rattle.byte_rules.specs.Text.{bytes}
 use Rattle.look.specs.Look.{byteAt}
 use Rattle.look.proofs.Laws.{byte-within}
-use Rattle.parentheticals.specs.Fields.{_>>=_, orElse, phraseAt, dateAt, authorEnd}
+use Rattle.parentheticals.specs.Fields.{_>>=_, phraseAt, dateAt, authorEnd}
 use Rattle.parentheticals.specs.Matching.{ofKind, authorAfter, headAt, noticeAt, closing, tailAt, creditOf, noticeOf, credited, noticed, restAt, creditAt, matchAt, firstOf, nextFrom}
 use Rattle.parentheticals.specs.declared.Span.{Span}
 use Rattle.parentheticals.specs.declared.Parenthetical.{Parenthetical}

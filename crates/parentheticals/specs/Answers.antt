@@ -6,7 +6,7 @@ use mathlib.Core.Option.{Option, none, some}
 use lib.ListN.{length, take}
 use Rattle.byte_rules.specs.Text.{bytes}
 use Rattle.byte_rules.specs.Reading.{Reading}
-use Rattle.records.specs.Answer.{Answer, refusalAnswer, lengthRefusal, spanRefusal, stateRefusal}
+use Rattle.records.specs.Answer.{Answer, given, unless, refusalAnswer, lengthRefusal, spanRefusal, stateRefusal}
 use Rattle.parentheticals.specs.Matching.{nextFrom, standsIn}
 use Rattle.parentheticals.specs.Records.{recordOf}
 use Rattle.parentheticals.specs.declared.Found.{Found}
@@ -18,15 +18,6 @@ use Rattle.parentheticals.specs.declared.Step.the-variants as step
 use Rattle.parentheticals.specs.declared.Discouragements.{Discouragements}
 use Rattle.parentheticals.specs.declared.Flagged.{Flagged}
 use Rattle.parentheticals.specs.declared.Flagged.the-variants as flagged
-
--- 0 and the values
-abbrev pub given : List ℕ → Answer
-given values = record { number = 0; values = values }
-
--- an answer: its refusal, or else what is given
-abbrev pub unless : {A : Type 0} → Option Answer → (Answer → A) → A → A
-unless none refused other = other
-unless (some refusal) refused other = refused refusal
 
 -- ---- the fresh state of a span
 

@@ -6,6 +6,7 @@ use mathlib.Core.Bool.{Bool, cond, _&&_, not}
 use mathlib.Core.Option.{Option, none, some}
 use lib.ListN.{length, drop}
 use lib.Dec.{ltb, eqb}
+use Rattle.basics.specs.Choice.{orElse}
 use Rattle.byte_rules.specs.Text.{bytes}
 use Rattle.byte_rules.specs.Classes.{isCreditSpace, isDigit, isCapital, isSmall, isAuthorByte}
 use Rattle.byte_rules.specs.Utf8.{charLen}
@@ -23,11 +24,6 @@ infixl 20 _>>=_
 abbrev pub _>>=_ : {A B : Type 0} → Option A → (A → Option B) → Option B
 _>>=_ none f = none
 _>>=_ (some a) f = f a
-
--- the first of two that matches
-abbrev pub orElse : {A : Type 0} → Option A → Option A → Option A
-orElse none other = other
-orElse (some a) other = some a
 
 -- ---- spaces: space, CR, LF, one or more
 

@@ -6,10 +6,11 @@ use mathlib.Core.Bool.{Bool, true, false, cond}
 use mathlib.Core.Option.{Option, none, some}
 use lib.ListN.{length}
 use lib.Dec.{eqb}
+use Rattle.basics.specs.Choice.{orElse}
 use Rattle.byte_rules.specs.Text.{bytes}
 use Rattle.look.specs.Look.{byteAt}
 use Rattle.records.specs.Produced.{produced}
-use Rattle.parentheticals.specs.Fields.{_>>=_, orElse, phraseAt, dateAt, authorStart, authorEnd}
+use Rattle.parentheticals.specs.Fields.{_>>=_, phraseAt, dateAt, authorStart, authorEnd}
 use Rattle.parentheticals.specs.declared.Span.{Span}
 use Rattle.parentheticals.specs.declared.Parenthetical.{Parenthetical}
 use Rattle.parentheticals.specs.declared.Parenthetical.the-variants.{ContributedBy, RevisedBy, ProofShortenedBy, ProofModificationDiscouraged, NewUsageDiscouraged}

@@ -8,10 +8,11 @@ use native.Mathlib.Omega.{arith}
 use mathlib.Core.List.{List, [], _∷_, _++_, append-assoc, append-nil}
 use lib.Dec.{leb}
 use lib.ListN.{length, take, drop, length-append, length-drop, take-append-drop, drop-of-length-le}
-use lib.Seq.{length-take-le, take-append-add, drop-append-add, take-all}
+use lib.Seq.{length-take-le, take-append-add, drop-append-add}
 use borrow.Author.Tests.{le-leb, lt-leb}
 use borrow.Rule.Slice.PartMut.{midOf, putMid}
 use mathlib.Core.Option.{Option, none, some}
+use Rattle.basics.proofs.Laws.{rest-is}
 use Rattle.records.specs.Answer.{Answer, done, short}
 use Rattle.records.specs.declared.Wrote.{Wrote}
 use Rattle.records.specs.Records.{put, laid, used, wroteOf, listAnswer, listLeft}
@@ -25,7 +26,7 @@ abbrev pub back : ℕ → List ℕ → List ℕ → List ℕ
 back at out last = putMid at (length out - at) out last
 
 pub tail-is : (at : ℕ) (out : List ℕ) → tail at out ≡ drop at out
-tail-is at out = take-all (length out - at) (drop at out) (omega (arith, length-drop at out))
+tail-is at out = rest-is out at
 
 pub back-is : (at : ℕ) (out last : List ℕ) → back at out last ≡ take at out ++ last
 back-is at out last = rw (drop-of-length-le (drop at out) {i = length out - at} (omega (arith, length-drop at out)), append-nil)

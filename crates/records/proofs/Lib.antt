@@ -3,4 +3,5 @@ pub mod ProducedLaws
 pub mod Laying
 pub mod Answers
 pub mod Texts
+pub mod Over
 pub mod Both

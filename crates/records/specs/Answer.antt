@@ -5,7 +5,7 @@ use mathlib.Core.List.{List, [], _∷_}
 use mathlib.Core.Option.{Option, none, some}
 use lib.Dec.{ltb}
 use Rattle.records.specs.declared.Refusal.{Refusal}
-use Rattle.records.specs.declared.Refusal.the-variants.{TooLong, BadSpan, BadState, BadTable, NoDate, BadMonth}
+use Rattle.records.specs.declared.Refusal.the-variants.{TooLong, BadSpan, BadState, BadTable, NoDate, BadMonth, InputTooLong}
 use Rattle.records.specs.declared.Filled.{Filled}
 use Rattle.records.specs.declared.Filled.the-variants.{Done, Short, Refused}
 use Rattle.records.specs.declared.Checked.{Checked}
@@ -19,9 +19,13 @@ pub record Answer : Type 0 where
 abbrev pub bare : ℕ → Answer
 bare n = record { number = n; values = [] }
 
--- 0: done, and how many records or bytes
+-- 0: done, and what is given
+abbrev pub given : List ℕ → Answer
+given values = record { number = 0; values = values }
+
+-- the same: how many records or bytes
 abbrev pub done : ℕ → Answer
-done n = record { number = 0; values = n ∷ [] }
+done n = given (n ∷ [])
 
 -- 7: lent room too short, and how many there are in full
 abbrev pub short : ℕ → Answer
@@ -51,6 +55,10 @@ noDate = bare 5
 abbrev pub badMonth : Answer
 badMonth = bare 6
 
+-- 8: a program's input over 65,536 bytes
+abbrev pub inputTooLong : Answer
+inputTooLong = bare 8
+
 abbrev pub refusalAnswer : Refusal → Answer
 refusalAnswer TooLong = tooLong
 refusalAnswer BadSpan = badSpan
@@ -58,6 +66,7 @@ refusalAnswer BadState = badState
 refusalAnswer (BadTable table entry) = badTable table entry
 refusalAnswer NoDate = noDate
 refusalAnswer BadMonth = badMonth
+refusalAnswer InputTooLong = inputTooLong
 
 abbrev pub filledAnswer : Filled → Answer
 filledAnswer (Done n) = done n
@@ -68,6 +77,11 @@ filledAnswer (Refused r) = refusalAnswer r
 abbrev pub checkedAnswer : Checked → Option Answer
 checkedAnswer checked.Good = none
 checkedAnswer (checked.Refused r) = some (refusalAnswer r)
+
+-- an answer, or what is given beside it: by its refusal, or else as it is
+abbrev pub unless : {A : Type 0} → Option Answer → (Answer → A) → A → A
+unless none refused other = other
+unless (some refusal) refused other = refused refusal
 
 -- the largest buffer
 abbrev pub longest : ℕ
@@ -84,3 +98,11 @@ spanRefusal len start end = cond (ltb longest len) (some tooLong) (cond (ltb end
 -- the refusal of a state at `pos` that reads to `end`, of a buffer of so many bytes; the lowest number
 unfoldable pub stateRefusal : ℕ → ℕ → ℕ → Option Answer
 stateRefusal len pos end = cond (ltb longest len) (some tooLong) (cond (ltb end pos || ltb len end) (some badState) none)
+
+-- the largest input of a program
+abbrev pub inputLimit : ℕ
+inputLimit = 65536
+
+-- the refusal of a program's input of so many bytes
+unfoldable pub inputRefusal : ℕ → Option Answer
+inputRefusal len = cond (ltb inputLimit len) (some inputTooLong) none

@@ -1,3 +1,4 @@
 pub mod Answer
 pub mod Records
+pub mod Over
 pub mod Produced

@@ -9,10 +9,9 @@ use native.Mathlib.Numerals.{add-one}
 use lib.ListN.{length, getD, take, length-append}
 use lib.Seq.{take-suc, take-all}
 use borrow.Rule.Slice.PartMut.{midOf, putMid}
-use Rattle.decimal.specs.Over.{over}
-use Rattle.decimal.proofs.Over.{over-then}
+use Rattle.records.specs.Over.{over}
+use Rattle.records.proofs.Over.{over-again, over-long, over-then}
 use Rattle.replay.specs.Lines.{fieldOf, fieldsOf}
-use Rattle.replay.proofs.Over.{over-long, over-again}
 
 fields-more : (word ns : List ℕ) (n : ℕ) → fieldsOf word (ns ++ (n ∷ [])) ≡ fieldsOf word ns ++ fieldOf n
 unfolding fieldsOf

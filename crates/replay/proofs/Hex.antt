@@ -7,10 +7,9 @@ use native.Mathlib.Omega.{arith}
 use native.Mathlib.Numerals.{add-one}
 use lib.ListN.{length, set, getD, take, length-append}
 use lib.Seq.{take-suc, take-all, length-take-le}
-use Rattle.decimal.specs.Over.{over}
-use Rattle.decimal.proofs.Over.{over-more}
+use Rattle.records.specs.Over.{over}
+use Rattle.records.proofs.Over.{over-long, over-more}
 use Rattle.replay.specs.Lines.{digitOf, hexOf}
-use Rattle.replay.proofs.Over.{over-long}
 
 pub length-hex : (bs : List ℕ) → length (hexOf bs) ≡ 2 * length bs
 unfolding hexOf

@@ -1,4 +1,3 @@
-pub mod Over
 pub mod Hex
 pub mod Fields
 pub mod Rooms

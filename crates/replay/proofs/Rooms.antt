@@ -10,17 +10,17 @@ use native.Mathlib.Numerals.{add-one}
 use lib.Dec.{leb, ltb, eqb}
 use lib.ListN.{length, set, getD, length-append, drop-of-length-le}
 use borrow.Author.Tests.{leb-true}
+use Rattle.basics.proofs.Laws.{differ}
 use Rattle.records.specs.Answer.{Answer, filledAnswer, done, short, tooLong, badSpan, badState, badMonth, longest, spanRefusal}
 use Rattle.records.specs.Records.{textAnswer}
 use Rattle.records.specs.declared.Filled.{Filled}
-use Rattle.decimal.specs.Over.{over}
-use Rattle.decimal.proofs.Over.{over-more}
+use Rattle.records.specs.Over.{over}
+use Rattle.records.proofs.Over.{over-long, over-more}
 use Rattle.comment_parser.specs.Own.{ownRefusal}
 use Rattle.comment_parser.specs.declared.ParserState.{ParserState}
 use Rattle.date.specs.declared.Date.{Date}
 use Rattle.date.specs.Writing.{writeRefusal}
 use Rattle.replay.specs.Bounds.{Fits, patternTo}
-use Rattle.replay.proofs.Over.{over-long}
 
 pub length-pattern : (n : ℕ) → length (patternTo n) ≡ n
 unfolding patternTo
@@ -46,7 +46,7 @@ Refusing r = (a : Answer) → r ≡ some a → 0 < a .number
 refusing-two : (x y : Answer) → 0 < x .number → 0 < y .number → (p q : Bool) → Refusing (cond p (some x) (cond q (some y) none))
 refusing-two x y hx hy true q a e = let z : x ≡ a = cc in omega (arith, ap (λ (t : Answer). t .number) z)
 refusing-two x y hx hy false true a e = let z : y ≡ a = cc in omega (arith, ap (λ (t : Answer). t .number) z)
-refusing-two x y hx hy false false a e = let z : _≡_ {A = ℕ} 0 1 = cc in absurd (omega arith)
+refusing-two x y hx hy false false a e = absurd (differ cc)
 
 pub span-refusing : (len start end : ℕ) → Refusing (spanRefusal len start end)
 unfolding spanRefusal
@@ -54,7 +54,7 @@ span-refusing len start end = refusing-two tooLong badSpan (omega arith) (omega 
 
 refusing-one : (x : Answer) → 0 < x .number → (p : Bool) → Refusing (cond p (some x) none)
 refusing-one x hx true a e = let z : x ≡ a = cc in omega (arith, ap (λ (t : Answer). t .number) z)
-refusing-one x hx false a e = let z : _≡_ {A = ℕ} 0 1 = cc in absurd (omega arith)
+refusing-one x hx false a e = absurd (differ cc)
 
 refusing-three : (x y z : Answer) → 0 < x .number → 0 < y .number → 0 < z .number → (p q s : Bool) → Refusing (cond p (some x) (cond q (some y) (cond s (some z) none)))
 refusing-three x y z hx hy hz true q s a e = let w : x ≡ a = cc in omega (arith, ap (λ (t : Answer). t .number) w)

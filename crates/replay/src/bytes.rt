@@ -2,7 +2,7 @@
 ghost use mathlib.Core.Path.{_≡_};
 ghost use Prim.Native.Nat.{_≤_, _<_};
 ghost use lib.ListN.{length};
-ghost use Rattle.decimal.specs.Over.{over};
+ghost use Rattle.records.specs.Over.{over};
 
 // Writes `from` over the front of `to`, which has room for it.
 pub fn copy(from: &[u8], to: &mut [u8])

@@ -6,7 +6,7 @@ ghost use mathlib.Core.Path.{_≡_};
 ghost use Prim.Native.Nat.{_+_, _*_, _≤_, _<_};
 ghost use lib.ListN.{length};
 ghost use Rattle.io.specs.Counts.{Counts};
-ghost use Rattle.decimal.specs.Over.{over};
+ghost use Rattle.records.specs.Over.{over};
 ghost use Rattle.replay.specs.Lines.{fieldOf, fieldsOf, digitOf, hexOf};
 
 // Writes a tab and the number at the front of `out`, and returns how many bytes they are.

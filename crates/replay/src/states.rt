@@ -1,9 +1,9 @@
 // The ten words of a parser's state.
 use crate::header::word;
+use basics::Span;
 use comment_parser::CommentItem;
 use comment_parser::ParserState;
 use comment_parser::Placed;
-use comment_parser::Span;
 use comment_parser::Waiting;
 ghost use Prim.Native.Nat.{_≤_};
 ghost use lib.ListN.{length};

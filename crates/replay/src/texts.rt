@@ -64,6 +64,7 @@ pub fn number_of(why: Refusal) -> u64
         Refusal::BadTable { table: _, entry: _ } => 4,
         Refusal::NoDate => 5,
         Refusal::BadMonth => 6,
+        Refusal::InputTooLong => 8,
     }
 }
 

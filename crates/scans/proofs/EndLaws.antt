@@ -6,11 +6,12 @@ use mathlib.Core.Path.{_≡_, refl}
 use mathlib.Core.List.{List}
 use native.Mathlib.Omega.{arith}
 use lib.ListN.{length}
+use Rattle.basics.proofs.Laws.{differ}
 use Rattle.look.specs.Look.{byteAt, blankAt}
 use Rattle.look.proofs.Laws.{blank-past}
 use Rattle.scans.specs.Marks.{rbracket}
 use Rattle.scans.specs.Ends.{blanksStep, blanksEnd, tagStop, tagEnd}
-use Rattle.scans.specs.declared.Place.the-variants.{At, Nowhere}
+use Rattle.basics.specs.declared.Place.the-variants.{At, Nowhere}
 use Rattle.scans.specs.declared.Step.the-variants.{One, Stop}
 use Rattle.scans.proofs.Laws.{Leads, by-one, stops, scanned, by-less}
 
@@ -50,7 +51,7 @@ module _ (s : List ℕ) (i : ℕ) where
 
 found : (b : Bool) (j q : ℕ) → elim b [ true ↦ At j | false ↦ Nowhere ] ≡ At q → (b ≡ true) × (j ≡ q)
 found true j q h = (refl, cc)
-found false j q h = let z : _≡_ {A = ℕ} 0 1 = cc in absurd (omega arith)
+found false j q h = absurd (differ cc)
 
 -- at a tag's end stands its `]`
 pub tag-closed : (s : List ℕ) (i q : ℕ) → tagEnd s i ≡ At q → byteAt s q rbracket ≡ true

@@ -7,6 +7,7 @@ use native.Mathlib.Nat.{le-refl}
 use native.Mathlib.Omega.{arith}
 use borrow.Author.Tests.{le-ltb, lt-ltb, ltb-true, ltb-false}
 use lib.Dec.{ltb}
+use Rattle.basics.proofs.Laws.{differ}
 use Rattle.scans.specs.Scan.{walk, scan}
 use Rattle.scans.specs.declared.Step.{Step}
 use Rattle.scans.specs.declared.Step.the-variants.{One, Two, Stop}
@@ -162,7 +163,7 @@ module _ (rule : ℕ → Step) (e : ℕ) where
 
 -- a test has one answer
 pub clash : {P : Type 0} {a : Bool} → a ≡ false → a ≡ true → P
-clash f t = let z : _≡_ {A = ℕ} 0 1 = cc in absurd (let y : ⊥ = omega arith in y)
+clash f t = absurd (differ cc)
 
 pub or-false : (a : Bool) → (a || false) ≡ a
 or-false true = refl

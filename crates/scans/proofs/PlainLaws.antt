@@ -1,4 +1,4 @@
--- Plain bytes are stepped over: no mark stands at any place that the scan over them passes.
+-- Plain bytes are stepped over: no active byte stands at any place that the scan over them passes.
 -- Assumes nothing.
 use Prim.Native.Nat.{ℕ, zero, suc, _+_, _-_, _≤_, _<_}
 use mathlib.Core.Bool.{Bool, true, false, _||_}
@@ -12,7 +12,7 @@ use Rattle.look.specs.Look.{byteAt}
 use Rattle.look.proofs.Laws.{holds-in, byte-test, doubled-not, word-not}
 use Rattle.scans.specs.Marks.{tick, tilde, lbracket, under, less, lf, cr, space}
 use Rattle.scans.specs.Ends.{opensTag, labelStopper, htmlMark, labelStep}
-use Rattle.scans.specs.Plain.{isMark, isLabelMark, markAt, plainStep, plainEnd, Lacks, Plain8}
+use Rattle.scans.specs.Plain.{isActive, isLabelActive, activeAt, plainStep, plainEnd, Lacks, Plain8}
 use Rattle.scans.specs.declared.Step.the-variants.{One, Stop}
 use Rattle.scans.proofs.Laws.{by-less, clash, scan-one, scan-stop, scan-le, scan-ge, over}
 
@@ -55,35 +55,35 @@ module _ (s : List ℕ) (k : ℕ) (h : k < length s) where
   byte-not : (b : ℕ) → eqb (getD s k 0) b ≡ false → byteAt s k b ≡ false
   byte-not b n = byte-test s k b h ∙ n
 
-  mark-test : markAt s k ≡ isMark (getD s k 0)
-  unfolding markAt
-  mark-test = holds-in isMark s k h
+  active-test : activeAt s k ≡ isActive (getD s k 0)
+  unfolding activeAt
+  active-test = holds-in isActive s k h
 
-  pub mark-not : isMark (getD s k 0) ≡ false → markAt s k ≡ false
-  mark-not n = mark-test ∙ n
+  pub active-not : isActive (getD s k 0) ≡ false → activeAt s k ≡ false
+  active-not n = active-test ∙ n
 
-  pub plain-one : markAt s k ≡ false → plainStep s k ≡ One
+  pub plain-one : activeAt s k ≡ false → plainStep s k ≡ One
   unfolding plainStep
   plain-one n = rw (plainStep, n)
 
-  pub mark-stop : isMark (getD s k 0) ≡ true → plainStep s k ≡ Stop
+  pub active-stop : isActive (getD s k 0) ≡ true → plainStep s k ≡ Stop
   unfolding plainStep
-  mark-stop t = rw (plainStep, mark-test ∙ t)
+  active-stop t = rw (plainStep, active-test ∙ t)
 
-  -- a plain byte is none of the marks
-  pub plain-byte : markAt s k ≡ false → let b = getD s k 0 in Free (eqb b tick) (eqb b less) (eqb b tilde) (eqb b lbracket) (eqb b lf) (eqb b under)
-  unfolding isMark
-  plain-byte n = let b = getD s k 0 in free (eqb b tick) (eqb b less) (eqb b tilde) (eqb b lbracket) (eqb b lf) (eqb b under) (sym mark-test ∙ n)
+  -- a plain byte is none of the active ones
+  pub plain-byte : activeAt s k ≡ false → let b = getD s k 0 in Free (eqb b tick) (eqb b less) (eqb b tilde) (eqb b lbracket) (eqb b lf) (eqb b under)
+  unfolding isActive
+  plain-byte n = let b = getD s k 0 in free (eqb b tick) (eqb b less) (eqb b tilde) (eqb b lbracket) (eqb b lf) (eqb b under) (sym active-test ∙ n)
 
-  -- at a plain byte stands none of the marks
-  pub mark-free : markAt s k ≡ false → Free (byteAt s k tick) (byteAt s k less) (byteAt s k tilde) (byteAt s k lbracket) (byteAt s k lf) (byteAt s k under)
-  mark-free n =
+  -- at a plain byte stands none of the active ones
+  pub active-free : activeAt s k ≡ false → Free (byteAt s k tick) (byteAt s k less) (byteAt s k tilde) (byteAt s k lbracket) (byteAt s k lf) (byteAt s k under)
+  active-free n =
       let f = plain-byte n in
       record { not-1 = byte-not tick (f .not-1); not-2 = byte-not less (f .not-2); not-3 = byte-not tilde (f .not-3); not-4 = byte-not lbracket (f .not-4); not-5 = byte-not lf (f .not-5); not-6 = byte-not under (f .not-6) }
 
-  -- in a label the rule steps over a byte that is none of its marks
-  pub label-one : isLabelMark (getD s k 0) ≡ false → labelStep s k ≡ One
-  unfolding isLabelMark labelStep labelStopper opensTag htmlMark
+  -- in a label the rule steps over a byte that is not active there
+  pub label-one : isLabelActive (getD s k 0) ≡ false → labelStep s k ≡ One
+  unfolding isLabelActive labelStep labelStopper opensTag htmlMark
   label-one n =
       let b = getD s k 0 in
       let f = free (eqb b lbracket) (eqb b tick) (eqb b less) (eqb b lf) (eqb b cr) (eqb b space) n in
@@ -92,11 +92,11 @@ module _ (s : List ℕ) (k : ℕ) (h : k < length s) where
       rw (labelStep, doubled-not s k lbracket x, doubled-not s k tick y, labelStopper, byte-not space (f .not-6), byte-not cr (f .not-5), byte-not lf (f .not-4), y, opensTag, x, htmlMark, word-not s k less _ (byte-not less (f .not-3)), word-not s k less _ (byte-not less (f .not-3)))
 
 pub plain-8 : (s : List ℕ) (i : ℕ) → i + 8 ≤ length s → Lacks s i 8 tick → Lacks s i 8 less → Lacks s i 8 tilde → Lacks s i 8 lbracket → Lacks s i 8 lf → Lacks s i 8 under → Plain8 s i
-unfolding isMark
+unfolding isActive
 plain-8 s i w a b c d e f =
     record {
       within = w;
-      none = λ k l. mark-not s (i + k) (omega arith) (none (record { not-1 = a k l; not-2 = b k l; not-3 = c k l; not-4 = d k l; not-5 = e k l; not-6 = f k l }));
+      none = λ k l. active-not s (i + k) (omega arith) (none (record { not-1 = a k l; not-2 = b k l; not-3 = c k l; not-4 = d k l; not-5 = e k l; not-6 = f k l }));
     }
 
 -- eight plain bytes are stepped over
@@ -105,7 +105,7 @@ over-8 s i p = over (plainStep s) (length s) 8 i (p .within) (λ k l. let w : i 
 
 -- every place that the scan over plain bytes passes is plain
 module _ (s : List ℕ) where
-  plain-turn : (i : ℕ) (b : Bool) → markAt s i ≡ b → i < length s → (k : ℕ) → i ≤ k → k < plainEnd s i → ((k : ℕ) → i + 1 ≤ k → k < plainEnd s (i + 1) → markAt s k ≡ false) → markAt s k ≡ false
+  plain-turn : (i : ℕ) (b : Bool) → activeAt s i ≡ b → i < length s → (k : ℕ) → i ≤ k → k < plainEnd s i → ((k : ℕ) → i + 1 ≤ k → k < plainEnd s (i + 1) → activeAt s k ≡ false) → activeAt s k ≡ false
   unfolding plainStep
   plain-turn i true m h k a l on =
       let z : plainEnd s i ≡ i = scan-stop (plainStep s) (length s) i h (rw (plainStep, m)) in
@@ -114,12 +114,12 @@ module _ (s : List ℕ) where
       let z : plainEnd s i ≡ plainEnd s (i + 1) = scan-one (plainStep s) (length s) i h (rw (plainStep, m)) in
       by-less i k (λ g. on k (omega arith) (omega arith)) (λ g. let y : k ≡ i = omega arith in rw y m)
 
-  plain-from : (n i : ℕ) → length s ≤ i + n → (k : ℕ) → i ≤ k → k < plainEnd s i → markAt s k ≡ false
+  plain-from : (n i : ℕ) → length s ≤ i + n → (k : ℕ) → i ≤ k → k < plainEnd s i → activeAt s k ≡ false
   plain-from zero i e k a l = absurd (let y : ⊥ = omega (arith, scan-le (plainStep s) (length s) i) in y)
   plain-from (suc n) i e k a l =
-      plain-turn i (markAt s i) refl (omega (arith, scan-le (plainStep s) (length s) i)) k a l (plain-from n (i + 1) (omega arith))
+      plain-turn i (activeAt s i) refl (omega (arith, scan-le (plainStep s) (length s) i)) k a l (plain-from n (i + 1) (omega arith))
 
-  pub plain-passed : (i k : ℕ) → i ≤ k → k < plainEnd s i → markAt s k ≡ false
+  pub plain-passed : (i k : ℕ) → i ≤ k → k < plainEnd s i → activeAt s k ≡ false
   plain-passed i k a l = plain-from (length s) i (omega arith) k a l
 
   -- a byte of a run of plain bytes that ends at p
@@ -127,14 +127,14 @@ module _ (s : List ℕ) where
     pub run-in : i < length s
     run-in = omega (arith, scan-le (plainStep s) (length s) i)
 
-    pub run-plain : markAt s i ≡ false
+    pub run-plain : activeAt s i ≡ false
     run-plain = plain-passed i i (le-refl i) (omega arith)
 
     pub run-on : p ≡ plainEnd s (i + 1)
     run-on = run ∙ scan-one (plainStep s) (length s) i run-in (plain-one s i run-in run-plain)
 
   -- what no plain byte changes, a run of them does not change
-  module _ {A : Type 0} (f : ℕ → A) (keeps : (k : ℕ) → k < length s → markAt s k ≡ false → f k ≡ f (k + 1)) where
+  module _ {A : Type 0} (f : ℕ → A) (keeps : (k : ℕ) → k < length s → activeAt s k ≡ false → f k ≡ f (k + 1)) where
     keeps-to : (n i p : ℕ) → p ≡ plainEnd s i → i + n ≡ p → f i ≡ f p
     keeps-to zero i p run e = let z : i ≡ p = omega arith in ap f z
     keeps-to (suc n) i p run e =

@@ -8,14 +8,15 @@ use native.Mathlib.Omega.{arith}
 use borrow.Author.Tests.{lt-ltb, ltb-true, leb-true, le-leb}
 use lib.Dec.{ltb, leb, lit<}
 use lib.ListN.{length}
-use Rattle.byte_rules.proofs.Laws.{both, not-blank}
+use Rattle.basics.proofs.Laws.{both, differ}
+use Rattle.byte_rules.proofs.Laws.{not-blank}
 use Rattle.look.specs.Look.{byteAt, blankAt, doubledAt}
 use Rattle.look.proofs.Laws.{byte-within, byte-other, blank-other, doubled-not, doubled-second}
 use Rattle.scans.specs.Marks.{tick, lbracket, rbracket}
 use Rattle.scans.specs.Ends.{tagStep, tagStop, tagEnd, opensTag}
 use Rattle.scans.specs.Notes.{covers, Holds, Noted}
-use Rattle.scans.specs.declared.Place.{Place}
-use Rattle.scans.specs.declared.Place.the-variants.{At, Nowhere}
+use Rattle.basics.specs.declared.Place.{Place}
+use Rattle.basics.specs.declared.Place.the-variants.{At, Nowhere}
 use Rattle.scans.specs.declared.Note.{Note}
 use Rattle.scans.specs.declared.Step.the-variants.{One, Two, Stop}
 use Rattle.scans.proofs.Laws.{by-less, clash, scan-one, scan-ge, scan-through}
@@ -23,15 +24,15 @@ use Rattle.scans.proofs.Laws.{by-less, clash, scan-one, scan-ge, scan-t
 -- the search for a tag
 
 tag-says-two : (a b c d : Bool) → elim a [ true ↦ Stop | false ↦ elim b [ true ↦ Two | false ↦ elim c [ true ↦ Stop | false ↦ elim d [ true ↦ Stop | false ↦ One ] ] ] ] ≡ Two → b ≡ true
-tag-says-two true b c d h = let z : _≡_ {A = ℕ} 0 1 = cc in absurd (let y : ⊥ = omega arith in y)
+tag-says-two true b c d h = absurd (differ cc)
 tag-says-two false true c d h = refl
-tag-says-two false false true d h = let z : _≡_ {A = ℕ} 0 1 = cc in absurd (let y : ⊥ = omega arith in y)
-tag-says-two false false false true h = let z : _≡_ {A = ℕ} 0 1 = cc in absurd (let y : ⊥ = omega arith in y)
-tag-says-two false false false false h = let z : _≡_ {A = ℕ} 0 1 = cc in absurd (let y : ⊥ = omega arith in y)
+tag-says-two false false true d h = absurd (differ cc)
+tag-says-two false false false true h = absurd (differ cc)
+tag-says-two false false false false h = absurd (differ cc)
 
 found-not : (b : Bool) (j : ℕ) → b ≡ true → elim b [ true ↦ At j | false ↦ Nowhere ] ≡ Nowhere → ⊥
-found-not true j t h = let z : _≡_ {A = ℕ} 0 1 = cc in omega arith
-found-not false j t h = let z : _≡_ {A = ℕ} 0 1 = cc in omega arith
+found-not true j t h = differ cc
+found-not false j t h = differ cc
 
 module _ (s : List ℕ) where
   tag-two : (m : ℕ) → tagStep s m ≡ Two → byteAt s (m + 1) tick ≡ true
@@ -63,7 +64,7 @@ module _ (s : List ℕ) where
       (λ g.
       let z : tagStop s k ≡ tagStop s (i + 1) =
       scan-through (tagStep s) (length s) k
-      (λ m t e. let w : byteAt s k tick ≡ true = rw e at (tag-two m t) in let v : byteAt s k tick ≡ false = byte-other s k lbracket tick b (λ z. omega arith) in let x : _≡_ {A = ℕ} 0 1 = cc in omega arith)
+      (λ m t e. let w : byteAt s k tick ≡ true = rw e at (tag-two m t) in let v : byteAt s k tick ≡ false = byte-other s k lbracket tick b (λ z. omega arith) in differ cc)
       (i + 1) (omega arith) l
       in
       let y : tagStop s k ≡ tagStop s (k + 1) = scan-one (tagStep s) (length s) k (byte-within s k lbracket b) (tag-one k b) in
@@ -74,7 +75,7 @@ module _ (s : List ℕ) where
 -- a place that a test found
 at-in : (b : Bool) (i j q n : ℕ) → i ≤ j → (b ≡ true → j < n) → elim b [ true ↦ At j | false ↦ Nowhere ] ≡ At q → (i ≤ q) × (q < n)
 at-in true i j q n h f p = let z : j ≡ q = cc in let g : j < n = f refl in omega arith
-at-in false i j q n h f p = let z : _≡_ {A = ℕ} 0 1 = cc in omega arith
+at-in false i j q n h f p = absurd (differ cc)
 
 -- a tag's end lies behind its start and within the text
 pub tag-in : (s : List ℕ) (i q : ℕ) → i ≤ length s → tagEnd s i ≡ At q → (i ≤ q) × (q < length s)
@@ -132,7 +133,7 @@ opens-cases : (t l : Bool) (e : Place) → (t ≡ true → l ≡ true → e ≡ 
 opens-cases false l e f g = refl
 opens-cases true false (At j) f g = refl
 opens-cases true false Nowhere f g = absurd (g refl refl refl)
-opens-cases true true (At j) f g = let y : At j ≡ Nowhere = f refl refl in let z : _≡_ {A = ℕ} 0 1 = cc in absurd (let y : ⊥ = omega arith in y)
+opens-cases true true (At j) f g = let y : At j ≡ Nowhere = f refl refl in absurd (differ cc)
 opens-cases true true Nowhere f g = refl
 
 -- by a note it is known whether a `[` opens a tag

@@ -11,8 +11,8 @@ use Rattle.scans.specs.Marks.{tick, lbracket, rbracket, under, lf, cr, s
 use Rattle.scans.specs.Scan.{scan}
 use Rattle.scans.specs.declared.Step.{Step}
 use Rattle.scans.specs.declared.Step.the-variants.{One, Two, Stop}
-use Rattle.scans.specs.declared.Place.{Place}
-use Rattle.scans.specs.declared.Place.the-variants.{At, Nowhere}
+use Rattle.basics.specs.declared.Place.{Place}
+use Rattle.basics.specs.declared.Place.the-variants.{At, Nowhere}
 use Rattle.scans.specs.declared.Rule.{Rule}
 use Rattle.scans.specs.declared.Rule.the-variants.{Blanks, Tag, Subscript, Italic}
 

@@ -7,7 +7,7 @@ use lib.Dec.{ltb, leb}
 use Rattle.look.specs.Look.{byteAt}
 use Rattle.scans.specs.Marks.{lbracket}
 use Rattle.scans.specs.Ends.{tagEnd, labelEnd}
-use Rattle.scans.specs.declared.Place.the-variants.{Nowhere}
+use Rattle.basics.specs.declared.Place.the-variants.{Nowhere}
 use Rattle.scans.specs.declared.Note.{Note}
 
 -- a note covers a place

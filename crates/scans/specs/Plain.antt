@@ -11,22 +11,22 @@ use Rattle.scans.specs.Scan.{scan}
 use Rattle.scans.specs.declared.Step.{Step}
 use Rattle.scans.specs.declared.Step.the-variants.{One, Stop}
 
--- what is looked at outside math: ` < ~ [ LF _
-unfoldable pub isMark : ℕ → Bool
-isMark c = eqb c tick || eqb c less || eqb c tilde || eqb c lbracket || eqb c lf || eqb c under
+-- an active byte: one that a rule may take outside math, one of ` < ~ [ LF _
+unfoldable pub isActive : ℕ → Bool
+isActive c = eqb c tick || eqb c less || eqb c tilde || eqb c lbracket || eqb c lf || eqb c under
 
--- what is looked at in a label: [ ` < LF CR space
-unfoldable pub isLabelMark : ℕ → Bool
-isLabelMark c = eqb c lbracket || eqb c tick || eqb c less || eqb c lf || eqb c cr || eqb c space
+-- the same in a label: one of [ ` < LF CR space
+unfoldable pub isLabelActive : ℕ → Bool
+isLabelActive c = eqb c lbracket || eqb c tick || eqb c less || eqb c lf || eqb c cr || eqb c space
 
 module _ (s : List ℕ) where
-  unfoldable pub markAt : ℕ → Bool
-  markAt j = holdsAt isMark s j
+  unfoldable pub activeAt : ℕ → Bool
+  activeAt j = holdsAt isActive s j
 
   unfoldable pub plainStep : ℕ → Step
-  plainStep j = elim (markAt j) [ true ↦ Stop | false ↦ One ]
+  plainStep j = elim (activeAt j) [ true ↦ Stop | false ↦ One ]
 
-  -- the first mark from i on, or the end
+  -- the first active byte from i on, or the end
   abbrev pub plainEnd : ℕ → ℕ
   plainEnd i = scan plainStep (length s) i
 
@@ -42,4 +42,4 @@ pub record Lacking (s : List ℕ) (i b : ℕ) : Type 0 where
 -- eight plain bytes from i on
 pub record Plain8 (s : List ℕ) (i : ℕ) : Type 0 where
   pub within : i + 8 ≤ length s
-  pub none : (k : ℕ) → k < 8 → markAt s (i + k) ≡ false
+  pub none : (k : ℕ) → k < 8 → activeAt s (i + k) ≡ false

@@ -9,7 +9,7 @@ ghost use mathlib.Core.Path.{_≡_};
 ghost use Prim.Native.Nat.{_≤_};
 ghost use lib.ListN.{length};
 ghost use Rattle.scans.specs.Ends.{labelStopper, htmlMark, labelStep, isUrl};
-ghost use Rattle.scans.specs.Plain.{isLabelMark};
+ghost use Rattle.scans.specs.Plain.{isLabelActive};
 ghost use Rattle.scans.specs.Notes.{Holds, Noted, Labelled};
 
 // A note, looked at at a place: where a `[` stands there that the note does not cover, its tag is searched, and where it has none that is noted.
@@ -73,8 +73,8 @@ pub struct LabelEnd {
 }
 
 // A byte that may end a label, or that doubled steps two.
-fn is_label_mark(c: u8) -> bool
-    ensures { λ r. ⌜ r ≡ isLabelMark c ⌝ }
+fn is_label_active(c: u8) -> bool
+    ensures { λ r. ⌜ r ≡ isLabelActive c ⌝ }
 {
     (c == b'[') | (c == b'`') | (c == b'<') | (c == b'\n') | (c == b'\r') | (c == b' ')
 }
@@ -87,7 +87,7 @@ pub fn label_end(text: &[u8], from: usize, note: Note) -> LabelEnd
     let mut i = from;
     let mut n = note;
     while i < text.len() {
-        if is_label_mark(text[i]) {
+        if is_label_active(text[i]) {
             n = tag_note(text, i, n);
             match label_step(text, i, n) {
                 Step::One => i += 1,

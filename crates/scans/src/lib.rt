@@ -3,6 +3,7 @@
 pub mod labels;
 pub mod plain;
 
+use basics::Place;
 use look::alphanumeric_at;
 use look::blank_at;
 use look::byte_at;
@@ -18,12 +19,6 @@ pub enum Step {
     One,
     Two,
     Stop,
-}
-
-// A place that may be missing.
-pub enum Place {
-    At(usize),
-    Nowhere,
 }
 
 // The rule that a scan goes by.

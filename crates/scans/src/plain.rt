@@ -3,11 +3,11 @@ ghost use mathlib.Core.Path.{_≡_};
 ghost use mathlib.Core.Bool.{true, false};
 ghost use Prim.Native.Nat.{_+_, _≤_};
 ghost use lib.ListN.{length};
-ghost use Rattle.scans.specs.Plain.{isMark, plainEnd, Lacks, Lacking, Plain8};
+ghost use Rattle.scans.specs.Plain.{isActive, plainEnd, Lacks, Lacking, Plain8};
 
-// A byte that a rule may take outside math. Most bytes are small letters, which lie between the marks.
-fn is_mark(c: u8) -> bool
-    ensures { λ r. ⌜ r ≡ isMark c ⌝ }
+// An active byte: one that a rule may take outside math. Most bytes are small letters, which lie between them.
+fn is_active(c: u8) -> bool
+    ensures { λ r. ⌜ r ≡ isActive c ⌝ }
 {
     if 96 < c {
         return c == b'~';
@@ -64,7 +64,7 @@ fn plain_8(text: &[u8], i: usize) -> bool
     !(a | b | c | d | e | f)
 }
 
-// The first mark from `from` on, or the end.
+// The first active byte from `from` on, or the end.
 pub fn plain_end(text: &[u8], from: usize) -> usize
     ensures { λ r. ⌜ r ≡ plainEnd (now (text .entry)) from ⌝ }
 {
@@ -73,7 +73,7 @@ pub fn plain_end(text: &[u8], from: usize) -> usize
         i += 8;
     }
     while i < text.len() {
-        if is_mark(text[i]) {
+        if is_active(text[i]) {
             return i;
         }
         i += 1;

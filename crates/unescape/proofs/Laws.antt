@@ -18,7 +18,7 @@ use lib.Dec.{eqb, ltb}
 use lib.ListN.{length, drop, getD, drop-of-length-le}
 use lib.Seq.{drop-cons}
 use borrow.Author.Tests.{ltb-true, ltb-false}
-use Rattle.byte_rules.proofs.Laws.{both}
+use Rattle.basics.proofs.Laws.{both}
 use Rattle.look.specs.Look.{byteAt}
 use Rattle.look.proofs.Laws.{byte-past, byte-within, byte-test}
 use Rattle.unescape.specs.Unescape.{unescaped, stepAt}

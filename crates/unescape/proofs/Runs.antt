@@ -9,7 +9,7 @@ use lib.Dec.{eqb}
 use lib.ListN.{length, drop, getD}
 use Rattle.byte_rules.proofs.Laws.{no-text-escape, no-label-escape, no-math-escape}
 use Rattle.scans.specs.Marks.{tick, tilde, lbracket, under}
-use Rattle.scans.specs.Plain.{markAt, plainEnd}
+use Rattle.scans.specs.Plain.{activeAt, plainEnd}
 use Rattle.scans.proofs.PlainLaws.{plain-byte, run-keeps}
 use Rattle.unescape.specs.Unescape.{isEscape, unescaped, stepAt}
 use Rattle.unescape.specs.declared.Escape.{Escape}
@@ -23,7 +23,7 @@ none-of Label c a b d e = no-label-escape c a b d
 none-of Math c a b d e = no-math-escape c a
 
 module _ (kind : Escape) (s : List ℕ) where
-  module _ (i : ℕ) (h : i < length s) (m : markAt s i ≡ false) where
+  module _ (i : ℕ) (h : i < length s) (m : activeAt s i ≡ false) where
     pub no-escape : isEscape kind (getD s i 0) ≡ false
     no-escape = let f = plain-byte s i h m in none-of kind (getD s i 0) (f .not-1) (f .not-4) (f .not-3) (f .not-6)
 

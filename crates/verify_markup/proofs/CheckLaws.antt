@@ -4,9 +4,10 @@ use Prim.Native.Nat.{ℕ, _*_, _≤_, _<_}
 use mathlib.Core.Path.{_≡_, refl, ap, fun-ext}
 use mathlib.Core.List.{List}
 use mathlib.Core.Option.{Option, none, some}
-use native.Mathlib.Omega.{arith}
 use lib.ListN.{length}
 use borrow.Author.Tests.{le-leb, lt-leb}
+use Rattle.basics.specs.Choice.{orElse}
+use Rattle.basics.proofs.Laws.{differ}
 use Rattle.records.specs.Answer.{Answer, done, short, spanRefusal}
 use Rattle.records.specs.Records.{laid, listAnswer, listLeft}
 use Rattle.records.proofs.Laying.{Given}
@@ -14,7 +15,7 @@ use Rattle.name_table.specs.Search.{isEntry, isIn}
 use Rattle.name_table.proofs.Laws.{searched-good}
 use Rattle.verify_markup.specs.Diag.{diagWidth}
 use Rattle.verify_markup.specs.Items.{lookedUp}
-use Rattle.verify_markup.specs.Check.{Table, Bibliography, lent, notLent, Tables, orElse, refusalOf, bibliographyRefusal, tablesRefusal, checkRefusal, tagsOf, namesBy, found}
+use Rattle.verify_markup.specs.Check.{Table, Bibliography, lent, notLent, Tables, refusalOf, bibliographyRefusal, tablesRefusal, checkRefusal, tagsOf, namesBy, found}
 
 -- ---- refusals
 
@@ -32,7 +33,7 @@ module _ (buf : List ℕ) (start end : ℕ) (t : Tables) where
 
 both-none : (a b : Option Answer) → none ≡ orElse a b → (none ≡ a) × (none ≡ b)
 both-none none b h = (refl, h)
-both-none (some a) b h = let z : _≡_ {A = ℕ} 0 1 = cc in absurd (omega arith)
+both-none (some a) b h = absurd (differ cc)
 
 found-good : (number : ℕ) (t : Table) → none ≡ refusalOf number t → found (t .bytes) (t .ends) ≡ isIn (t .bytes) (t .ends)
 found-good number t h = fun-ext (λ name. ap isEntry (searched-good (t .bytes) (t .ends) name number h))

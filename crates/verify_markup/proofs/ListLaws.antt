@@ -12,8 +12,8 @@ use denote.Enum.Declared.{tagOf}
 use Rattle.byte_rules.specs.Reading.{rust}
 use Rattle.scans.specs.Notes.{Holds}
 use Rattle.scans.specs.declared.Note.{Note}
-use Rattle.scans.specs.declared.Place.{Place}
-use Rattle.scans.specs.declared.Place.the-variants.{At, Nowhere}
+use Rattle.basics.specs.declared.Place.{Place}
+use Rattle.basics.specs.declared.Place.the-variants.{At, Nowhere}
 use Rattle.records.specs.Answer.{longest}
 use Rattle.records.specs.Records.{laid, wroteOf}
 use Rattle.records.specs.declared.Wrote.{Wrote}

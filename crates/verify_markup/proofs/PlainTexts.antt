@@ -11,7 +11,7 @@ use Rattle.byte_rules.proofs.Laws.{upper-not}
 use Rattle.look.specs.Look.{holdsAt}
 use Rattle.look.proofs.Laws.{holds-in}
 use Rattle.scans.specs.Marks.{less}
-use Rattle.scans.specs.Plain.{markAt, plainStep, plainEnd}
+use Rattle.scans.specs.Plain.{activeAt, plainStep, plainEnd}
 use Rattle.scans.proofs.Laws.{by-less, scan-end}
 use Rattle.scans.proofs.PlainLaws.{plain-byte, run-keeps}
 use Rattle.unescape.specs.Unescape.{isEscape, stepAt}
@@ -41,7 +41,7 @@ module _ (buf : List ℕ) (kind : Escape) (e : ℕ) (fits : e ≤ length buf) wh
   abbrev lones : ℕ → List (List ℕ)
   lones i = loneFrom buf kind e (e - i) i
 
-  plain-lone : (k : ℕ) → k < length text → markAt text k ≡ false → lones k ≡ lones (k + 1)
+  plain-lone : (k : ℕ) → k < length text → activeAt text k ≡ false → lones k ≡ lones (k + 1)
   unfolding loneAt
   plain-lone k h m =
       let l : k < e = omega (arith, whole) in
@@ -62,7 +62,7 @@ module _ (buf : List ℕ) (kind : Escape) (e : ℕ) (fits : e ≤ length buf) wh
 -- ---- HTML marks: each begins with a `<`
 
 module _ (s : List ℕ) where
-  module _ (k : ℕ) (h : k < length s) (m : markAt s k ≡ false) where
+  module _ (k : ℕ) (h : k < length s) (m : activeAt s k ≡ false) where
     no-letter : holdsAt (isLetter less) s k ≡ false
     unfolding isLetter
     no-letter = holds-in (isLetter less) s k h ∙ upper-not less (getD s k 0) (omega arith) (plain-byte s k h m .not-2)

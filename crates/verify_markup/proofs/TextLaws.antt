@@ -11,8 +11,8 @@ use lib.Dec.{ltb, eqb}
 use lib.ListN.{length, getD, take, drop, drop-of-length-le}
 use lib.Seq.{drop-cons}
 use borrow.Author.Tests.{lt-ltb, le-ltb, eq-eqb, ne-eqb}
+use Rattle.basics.proofs.Laws.{both}
 use Rattle.byte_rules.specs.Names.{upper}
-use Rattle.byte_rules.proofs.Laws.{both}
 use Rattle.look.specs.Look.{holdsAt}
 use Rattle.look.proofs.Laws.{holds-in, holds-past, holds-within}
 use Rattle.scans.specs.Marks.{openHtml, closeHtml}
@@ -20,7 +20,7 @@ use Rattle.unescape.specs.Unescape.{isEscape, stepAt}
 use Rattle.unescape.specs.declared.Escape.{Escape}
 use Rattle.unescape.proofs.Laws.{step-some}
 use Rattle.comment_parser.specs.Item.{span}
-use Rattle.comment_parser.specs.declared.Span.{Span}
+use Rattle.basics.specs.declared.Span.{Span}
 use Rattle.verify_markup.specs.Diag.{diag, when}
 use Rattle.verify_markup.specs.Texts.{isReported, isLetter, foldedAt, htmlLen, htmlFrom, loneAt, loneFrom, htmlIn, written}
 use Rattle.verify_markup.proofs.DiagLaws.{Few, few-append, few-none, few-more, few-when}

@@ -4,6 +4,7 @@ use mathlib.Core.Bool.{Bool}
 use mathlib.Core.List.{List}
 use mathlib.Core.Option.{Option, none, some}
 use lib.ListN.{length}
+use Rattle.basics.specs.Choice.{orElse}
 use Rattle.records.specs.Answer.{Answer, spanRefusal}
 use Rattle.records.specs.Records.{listAnswer, listLeft}
 use Rattle.name_table.specs.Table.{tableRefusal}
@@ -28,11 +29,6 @@ pub record Tables : Type 0 where
   pub symbols : Table
   pub labels : Table
   pub bibliography : Bibliography
-
--- the first refusal of two
-abbrev pub orElse : Option Answer → Option Answer → Option Answer
-orElse (some a) r = some a
-orElse none r = r
 
 -- 4 for the lowest table: 1 symbols, 2 labels, 3 bibliography
 abbrev pub refusalOf : ℕ → Table → Option Answer

@@ -12,7 +12,7 @@ use Rattle.unescape.specs.Unescape.{isEscape, stepAt}
 use Rattle.unescape.specs.declared.Escape.{Escape}
 use Rattle.unescape.specs.declared.Escape.the-variants.{Text, Label, Math}
 use Rattle.comment_parser.specs.Item.{span}
-use Rattle.comment_parser.specs.declared.Span.{Span}
+use Rattle.basics.specs.declared.Span.{Span}
 use Rattle.verify_markup.specs.Diag.{diag, when}
 
 -- the escape bytes that are reported: each but a Text's `[`

@@ -5,9 +5,9 @@ mod laying;
 mod opened;
 mod texts;
 
+use basics::Place;
 use driver::check;
 use records::Filled;
-use scans::Place;
 ghost use mathlib.Core.Path.{_≡_};
 ghost use lib.ListN.{length};
 ghost use Rattle.records.specs.Answer.{filledAnswer};

@@ -1,9 +1,9 @@
 // Where math and HTML were opened, along the events.
 use crate::Modes;
 use crate::laying::lay_if;
+use basics::Place;
 use comment_parser::CommentItem;
 use records::Wrote;
-use scans::Place;
 ghost use mathlib.Core.Path.{_≡_};
 ghost use Prim.Native.Nat.{_≤_};
 ghost use lib.ListN.{length};

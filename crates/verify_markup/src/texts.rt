@@ -1,7 +1,7 @@
 // The diagnostics of a text's or a label's span: lone escapes, and an HTML mark.
 use crate::laying::lay_if;
+use basics::Span;
 use byte_rules::names::upper;
-use comment_parser::Span;
 use records::Wrote;
 use scans::plain::plain_end;
 use unescape::Escape;

@@ -1,3 +1,5 @@
+-- `is_alphanumeric` meets its contract.
+-- Assumes nothing.
 use Rattle.byte_rules.specs.Classes.{isAlphanumeric}
 use borrow.Author.Needs.{needs}
 use Rattle.byte_rules.proofs.is_alphanumeric.Statement.{statement}

@@ -1,3 +1,5 @@
+-- `is_author_byte` meets its contract.
+-- Assumes nothing.
 use Rattle.byte_rules.specs.Classes.{isAuthorByte}
 use mathlib.Core.Path.{refl}
 use Rattle.byte_rules.proofs.is_author_byte.Statement.{statement}

@@ -1,3 +1,5 @@
+-- `is_blank` meets its contract.
+-- Assumes nothing.
 use Rattle.byte_rules.specs.Classes.{isBlank}
 use mathlib.Core.Path.{refl}
 use Rattle.byte_rules.proofs.is_blank.Statement.{statement}

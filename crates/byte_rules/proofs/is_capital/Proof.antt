@@ -1,3 +1,5 @@
+-- `is_capital` meets its contract.
+-- Assumes nothing.
 use Rattle.byte_rules.specs.Classes.{isCapital}
 use mathlib.Core.Path.{refl}
 use Rattle.byte_rules.proofs.is_capital.Statement.{statement}

@@ -1,3 +1,5 @@
+-- `is_closer` meets its contract.
+-- Assumes nothing.
 use Rattle.byte_rules.specs.Classes.{isCloser}
 use mathlib.Core.Path.{refl}
 use Rattle.byte_rules.proofs.is_closer.Statement.{statement}

@@ -1,3 +1,5 @@
+-- `is_credit_space` meets its contract.
+-- Assumes nothing.
 use Rattle.byte_rules.specs.Classes.{isCreditSpace}
 use mathlib.Core.Path.{refl}
 use Rattle.byte_rules.proofs.is_credit_space.Statement.{statement}

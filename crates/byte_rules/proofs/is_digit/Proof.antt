@@ -1,3 +1,5 @@
+-- `is_digit` meets its contract.
+-- Assumes nothing.
 use Rattle.byte_rules.specs.Classes.{isDigit}
 use mathlib.Core.Path.{refl}
 use Rattle.byte_rules.proofs.is_digit.Statement.{statement}

@@ -1,3 +1,5 @@
+-- `is_italic_opener` meets its contract.
+-- Assumes nothing.
 use Rattle.byte_rules.specs.Classes.{isItalicOpener}
 use mathlib.Core.Path.{refl}
 use Rattle.byte_rules.proofs.is_italic_opener.Statement.{statement}

@@ -1,3 +1,5 @@
+-- `is_label_escape` meets its contract.
+-- Assumes nothing.
 use Rattle.byte_rules.specs.Classes.{isLabelEscape}
 use mathlib.Core.Path.{refl}
 use Rattle.byte_rules.proofs.is_label_escape.Statement.{statement}

@@ -1,3 +1,5 @@
+-- `is_math_escape` meets its contract.
+-- Assumes nothing.
 use Rattle.byte_rules.specs.Classes.{isMathEscape}
 use mathlib.Core.Path.{refl}
 use Rattle.byte_rules.proofs.is_math_escape.Statement.{statement}

@@ -1,3 +1,5 @@
+-- `is_small` meets its contract.
+-- Assumes nothing.
 use Rattle.byte_rules.specs.Classes.{isSmall}
 use mathlib.Core.Path.{refl}
 use Rattle.byte_rules.proofs.is_small.Statement.{statement}

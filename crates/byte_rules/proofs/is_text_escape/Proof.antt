@@ -1,3 +1,5 @@
+-- `is_text_escape` meets its contract.
+-- Assumes nothing.
 use Rattle.byte_rules.specs.Classes.{isTextEscape}
 use borrow.Author.Needs.{needs}
 use Rattle.byte_rules.proofs.is_text_escape.Statement.{statement}

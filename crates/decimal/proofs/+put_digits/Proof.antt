@@ -6,9 +6,9 @@ use native.Mathlib.Omega.{arith}
 use lib.ListN.{length-set}
 use denote.Ref.{now}
 use Rattle.decimal.proofs.Laws.{decimal-small, decimal-more, length-small, length-more}
-use Rattle.decimal.proofs.Over.{over-more}
+use Rattle.records.proofs.Over.{over-more}
 use Rattle.decimal.specs.Decimal.{decimal}
-use Rattle.decimal.specs.Over.{over}
+use Rattle.records.specs.Over.{over}
 use Prim.Native.Nat.{ℕ, _+_, _/_, _%_, _<_}
 use borrow.Fn.Kinds.{In}
 use borrow.Fn.PlainCycle.{Measures, is, falls, and}

@@ -7,7 +7,7 @@ use denote.Ref.{now}
 use borrow.Author.Needs.{needs}
 use Rattle.records.proofs.Texts.{told-short}
 use Rattle.decimal.specs.Decimal.{decimal}
-use Rattle.decimal.proofs.Over.{over-done}
+use Rattle.records.proofs.Over.{over-done}
 use Rattle.decimal.proofs.put_decimal.Statement.{statement}
 use Rattle.decimal.proofs.put_decimal.Tie as tie
 

@@ -1,5 +1,5 @@
+use Rattle.basics.proofs.Laws.{rest-is}
 use Rattle.look.proofs.Laws.{word-past, word-here}
-use Rattle.byte_rules.proofs.Laws.{rest-is}
 use mathlib.Core.Path.{_∙_}
 use borrow.Author.Needs.{needs}
 use Rattle.look.proofs.word_at.Statement.{statement}

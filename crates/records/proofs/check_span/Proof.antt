@@ -1,3 +1,5 @@
+-- `check_span` meets its contract.
+-- Assumes nothing.
 use Rattle.records.proofs.check_span.Statement.{statement}
 use Rattle.records.proofs.check_span.Tie as tie
 use Rattle.records.proofs.Answers.{span-long}

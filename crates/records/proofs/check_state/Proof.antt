@@ -1,3 +1,5 @@
+-- `check_state` meets its contract.
+-- Assumes nothing.
 use Rattle.records.proofs.check_state.Statement.{statement}
 use Rattle.records.proofs.check_state.Tie as tie
 use Rattle.records.proofs.Answers.{state-long}

@@ -1,3 +1,5 @@
+-- `blanks_end` meets its contract.
+-- Assumes nothing.
 use Rattle.scans.specs.Ends.{stepBy}
 use Rattle.scans.proofs.blanks_end.Statement.{statement}
 use Rattle.scans.proofs.blanks_end.Tie as tie

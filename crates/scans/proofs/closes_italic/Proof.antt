@@ -1,3 +1,5 @@
+-- `closes_italic` meets its contract.
+-- Assumes nothing.
 use Rattle.look.proofs.Laws.{byte-within}
 use mathlib.Core.Path.{sym, _∙_}
 use native.Mathlib.Omega.{arith}

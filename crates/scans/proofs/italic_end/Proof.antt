@@ -1,3 +1,5 @@
+-- `italic_end` meets its contract.
+-- Assumes nothing.
 use borrow.Author.Needs.{needs}
 use Rattle.scans.specs.Ends.{italicEnd, stepBy}
 use mathlib.Core.Path.{sym, _∙_}

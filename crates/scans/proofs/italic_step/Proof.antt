@@ -1,3 +1,5 @@
+-- `italic_step` meets its contract.
+-- Assumes nothing.
 use Rattle.scans.proofs.RustLaws.{italic-rust}
 use borrow.Author.Needs.{needs}
 use Rattle.scans.proofs.italic_step.Statement.{statement}

@@ -1,3 +1,5 @@
+-- `step_by` meets its contract.
+-- Assumes nothing.
 use Rattle.scans.specs.Ends.{stepBy}
 use borrow.Author.Needs.{needs}
 use Rattle.scans.proofs.step_by.Statement.{statement}

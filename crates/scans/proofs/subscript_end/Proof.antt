@@ -1,3 +1,5 @@
+-- `subscript_end` meets its contract.
+-- Assumes nothing.
 use borrow.Author.Needs.{needs}
 use Rattle.scans.specs.Ends.{subscriptEnd, stepBy}
 use borrow.Author.Tests.{lt-ltb, le-ltb}

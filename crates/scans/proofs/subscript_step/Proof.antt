@@ -1,3 +1,5 @@
+-- `subscript_step` meets its contract.
+-- Assumes nothing.
 use Rattle.scans.proofs.RustLaws.{subscript-rust}
 use borrow.Author.Needs.{needs}
 use Rattle.scans.proofs.subscript_step.Statement.{statement}

@@ -1,3 +1,5 @@
+-- `tag_stop` meets its contract.
+-- Assumes nothing.
 use Rattle.scans.specs.Ends.{stepBy}
 use Rattle.scans.proofs.tag_stop.Statement.{statement}
 use Rattle.scans.proofs.tag_stop.Tie as tie

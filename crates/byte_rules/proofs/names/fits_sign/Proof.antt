@@ -1,3 +1,5 @@
+-- `fits_sign` meets its contract.
+-- Assumes nothing.
 use Rattle.byte_rules.specs.Names.{fitsSign}
 use borrow.Author.Tests.{eq-eqb, ne-eqb}
 use borrow.Author.Needs.{needs}

@@ -1,3 +1,5 @@
+-- `is_label_byte` meets its contract.
+-- Assumes nothing.
 use Rattle.byte_rules.specs.Names.{isLabelByte}
 use borrow.Author.Needs.{needs}
 use Rattle.byte_rules.proofs.names.is_label_byte.Statement.{statement}

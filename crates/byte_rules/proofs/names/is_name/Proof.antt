@@ -1,3 +1,5 @@
+-- `is_name` meets its contract. The invariant: what is asked of the whole name is what is asked from here on.
+-- Assumes nothing.
 use Prim.Native.Nat.{_-_}
 use mathlib.Core.Path.{_≡_, refl, sym, _∙_}
 use native.Mathlib.Omega.{arith}

@@ -1,3 +1,5 @@
+-- `is_reserved_name` meets its contract.
+-- Assumes nothing.
 use Rattle.byte_rules.specs.Names.{isReservedName}
 use borrow.Author.Needs.{needs}
 use Rattle.byte_rules.proofs.names.is_reserved_name.Statement.{statement}

@@ -1,3 +1,5 @@
+-- `is_valid_label` meets its contract. The invariant: what is asked of the whole label is what is asked from here on.
+-- Assumes nothing.
 use Prim.Native.Nat.{_-_}
 use mathlib.Core.Path.{_≡_, refl, sym, _∙_}
 use borrow.Author.Needs.{needs}

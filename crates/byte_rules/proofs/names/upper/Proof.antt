@@ -1,3 +1,5 @@
+-- `upper` meets its contract.
+-- Assumes nothing.
 use Rattle.byte_rules.proofs.Laws.{small-is}
 use Rattle.byte_rules.specs.Names.{upper}
 use native.Mathlib.Omega.{arith}

@@ -1,3 +1,5 @@
+-- `byte_or` meets its contract.
+-- Assumes nothing.
 use Rattle.byte_rules.proofs.CharLaws.{byte-in}
 use mathlib.Core.Path.{sym, _∙_}
 use Rattle.byte_rules.specs.Utf8.{byteOr}

@@ -1,6 +1,8 @@
+-- `char_len` meets its contract.
+-- Assumes nothing.
 use mathlib.Core.Path.{_∙_}
+use Rattle.basics.proofs.Laws.{rest-is}
 use Rattle.byte_rules.proofs.CharLaws.{char-from, char-past}
-use Rattle.byte_rules.proofs.Laws.{rest-is}
 use borrow.Author.Needs.{needs}
 use Rattle.byte_rules.proofs.utf8.char_len.Statement.{statement}
 use Rattle.byte_rules.proofs.utf8.char_len.Tie as tie

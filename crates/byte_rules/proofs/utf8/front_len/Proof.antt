@@ -1,3 +1,5 @@
+-- `front_len` meets its contract.
+-- Assumes nothing.
 use Rattle.byte_rules.specs.Utf8.{charLen, isOne}
 use borrow.Author.Tests.{le-leb, lt-leb}
 use borrow.Author.Needs.{needs}

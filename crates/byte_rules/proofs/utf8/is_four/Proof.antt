@@ -1,3 +1,5 @@
+-- `is_four` meets its contract.
+-- Assumes nothing.
 use Rattle.byte_rules.specs.Utf8.{isFour}
 use borrow.Author.Needs.{needs}
 use Rattle.byte_rules.proofs.utf8.is_four.Statement.{statement}

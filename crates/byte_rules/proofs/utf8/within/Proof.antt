@@ -1,3 +1,5 @@
+-- `within` meets its contract.
+-- Assumes nothing.
 use Rattle.byte_rules.specs.Utf8.{within}
 use mathlib.Core.Path.{refl}
 use Rattle.byte_rules.proofs.utf8.within.Statement.{statement}

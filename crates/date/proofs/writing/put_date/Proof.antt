@@ -7,7 +7,7 @@ use native.Mathlib.Omega.{arith}
 use lib.ListN.{length, length-append, length-drop}
 use borrow.Rule.Slice.PartMut.{putMid}
 use Rattle.decimal.specs.Decimal.{decimal}
-use Rattle.decimal.proofs.Over.{over-left, over-then}
+use Rattle.records.proofs.Over.{over-left, over-then}
 use Rattle.records.proofs.Laying.{tail-is}
 use Rattle.date.specs.Writing.{monthText, yearText, dateText}
 use Rattle.date.proofs.WritingLaws.{length-month, length-date}

@@ -4,7 +4,7 @@ use mathlib.Core.List.{[], _∷_}
 use native.Mathlib.Omega.{arith}
 use lib.ListN.{length-set}
 use lib.Seq.{sets-eq}
-use Rattle.decimal.specs.Over.{over}
+use Rattle.records.specs.Over.{over}
 use Rattle.date.specs.Months.{letterOf}
 use Rattle.date.specs.Writing.{monthText}
 use borrow.Author.Needs.{needs}

@@ -7,8 +7,8 @@ use native.Mathlib.Omega.{arith}
 use lib.ListN.{length, replicate, length-set, length-replicate, length-drop}
 use borrow.Rule.Slice.PartMut.{midOf}
 use Rattle.decimal.specs.Decimal.{decimal}
-use Rattle.decimal.specs.Over.{over}
-use Rattle.decimal.proofs.Over.{over-left, over-then}
+use Rattle.records.specs.Over.{over}
+use Rattle.records.proofs.Over.{over-left, over-then}
 use Rattle.records.proofs.Laying.{tail-is}
 use Rattle.date.proofs.WritingLaws.{year-is, length-year, zeros-more}
 use borrow.Author.Needs.{needs}

@@ -3,7 +3,7 @@
 use native.Mathlib.Omega.{arith}
 use Rattle.records.specs.Answer.{badMonth}
 use Rattle.records.proofs.Texts.{told-refused, told-short}
-use Rattle.decimal.proofs.Over.{over-done}
+use Rattle.records.proofs.Over.{over-done}
 use Rattle.date.specs.Writing.{dateText, writeRefusal}
 use Rattle.date.proofs.WritingLaws.{month-good, refusal-none, refusal-month}
 use borrow.Author.Needs.{needs}

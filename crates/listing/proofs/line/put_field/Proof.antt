@@ -9,7 +9,7 @@ use borrow.Rule.Slice.PartMut.{midOf}
 use borrow.Author.Needs.{needs}
 use Rattle.decimal.specs.Decimal.{decimal}
 use Rattle.records.proofs.Laying.{tail-is}
-use Rattle.decimal.proofs.Over.{over-left}
+use Rattle.records.proofs.Over.{over-left}
 use Rattle.listing.specs.Line.{field}
 use Rattle.listing.proofs.Laws.{put-kept, put-byte, put-then}
 use Rattle.listing.proofs.line.put_field.Statement.{statement}

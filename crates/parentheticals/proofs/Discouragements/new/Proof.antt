@@ -8,7 +8,7 @@ use Rattle.parentheticals.proofs.Discouragements.new.Tie as tie
 
 returns : tie.Need-returns
 unfolding discouragementsAnswer
-returns c = rw (length-long _ (c .if1 .taken))
+returns c = rw (← length-long _ (c .if1 .taken))
 
 slice-aggregate-stands-in : tie.Need-slice-aggregate-stands-in
 slice-aggregate-stands-in c = search needs
@@ -24,7 +24,7 @@ stands-in-requires-2 c κs = search needs
 
 returns-2 : tie.Need-returns-2
 unfolding discouragementsAnswer
-returns-2 c = rw (length-fits _ (c .before .before .before .before .if1 .left), ← c .before .before .stands-in .ensures, ← c .stands-in2 .ensures)
+returns-2 c = rw (← length-fits _ (c .before .before .before .before .if1 .left), ← c .before .before .stands-in .ensures, ← c .stands-in2 .ensures)
 
 pub new-spec : {M : Type 1} → statement M
 new-spec =

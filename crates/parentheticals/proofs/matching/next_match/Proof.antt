@@ -11,8 +11,8 @@ use native.Mathlib.Nat.{le-refl}
 use native.Mathlib.Omega.{arith}
 use lib.ListN.{length}
 use borrow.Author.Tests.{leb-true}
+use Rattle.basics.proofs.Laws.{both}
 use Rattle.byte_rules.specs.Reading.{barsNothing}
-use Rattle.byte_rules.proofs.Laws.{both}
 use Rattle.parentheticals.specs.Fields.{authorEnd}
 use Rattle.parentheticals.specs.Matching.{headOf, tailOf, headAt, noticeAt, restAt, nextFrom}
 use Rattle.parentheticals.proofs.Inside.{Begins}

@@ -5,8 +5,8 @@ use mathlib.Core.Path.{_≡_, refl}
 use native.Mathlib.Omega.{arith}
 use lib.ListN.{length, take}
 use lib.Seq.{length-take-le}
-use Rattle.decimal.specs.Over.{over}
-use Rattle.replay.proofs.Over.{over-long, over-step, over-all}
+use Rattle.records.specs.Over.{over}
+use Rattle.records.proofs.Over.{over-long, over-step, over-all}
 use Rattle.replay.proofs.bytes.copy.Statement.{statement}
 use Rattle.replay.proofs.bytes.copy.Tie as tie
 

@@ -5,9 +5,9 @@ use mathlib.Core.List.{[], _∷_}
 use native.Mathlib.Omega.{arith}
 use lib.ListN.{length, set, length-set, length-drop}
 use Rattle.decimal.specs.Decimal.{decimal}
-use Rattle.decimal.specs.Over.{over}
+use Rattle.records.specs.Over.{over}
 use Rattle.decimal.proofs.Laws.{length-below}
-use Rattle.decimal.proofs.Over.{over-left, over-more, over-then}
+use Rattle.records.proofs.Over.{over-left, over-more, over-then}
 use Rattle.records.proofs.Laying.{tail-is}
 use Rattle.replay.specs.Lines.{fieldOf}
 use borrow.Author.Needs.{needs}

@@ -4,7 +4,7 @@ use Prim.Native.Nat.{_-_, _*_, _≤_}
 use mathlib.Core.Path.{_≡_, refl}
 use native.Mathlib.Omega.{arith}
 use lib.ListN.{length, take, length-set}
-use Rattle.decimal.specs.Over.{over}
+use Rattle.records.specs.Over.{over}
 use Rattle.replay.specs.Lines.{hexOf}
 use Rattle.replay.proofs.Hex.{hex-step, hex-long, hex-all}
 use Rattle.replay.proofs.lines.put_hex.Statement.{statement}

@@ -4,7 +4,7 @@ use Prim.Native.Nat.{_-_, _≤_}
 use mathlib.Core.Path.{_≡_, refl}
 use native.Mathlib.Omega.{arith}
 use lib.ListN.{length}
-use Rattle.decimal.specs.Over.{over}
+use Rattle.records.specs.Over.{over}
 use Rattle.replay.specs.Bounds.{patternTo}
 use Rattle.replay.proofs.Rooms.{pattern-long, pattern-step, pattern-all}
 use Rattle.replay.proofs.texts.fill.Statement.{statement}

@@ -1,3 +1,5 @@
+-- `html_mark` meets its contract.
+-- Assumes nothing.
 use Rattle.scans.specs.Ends.{htmlMark}
 use borrow.Author.Needs.{needs}
 use Rattle.scans.proofs.labels.html_mark.Statement.{statement}

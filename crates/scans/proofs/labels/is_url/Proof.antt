@@ -1,3 +1,5 @@
+-- `is_url` meets its contract.
+-- Assumes nothing.
 use Rattle.scans.specs.Ends.{isUrl}
 use borrow.Author.Needs.{needs}
 use Rattle.scans.proofs.labels.is_url.Statement.{statement}

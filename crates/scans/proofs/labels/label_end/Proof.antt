@@ -1,3 +1,5 @@
+-- `label_end` meets its contract. The invariant: a label from here ends where the label from the start does, if the note holds.
+-- Assumes nothing.
 use Prim.Native.Nat.{_-_, _≤_}
 use mathlib.Core.Path.{_≡_, refl, sym, _∙_}
 use lib.ListN.{length}
@@ -19,11 +21,11 @@ abbrev μ-loop : tie.MeasureT-loop
 loop-holds : tie.Need-loop-holds Inv-loop μ-loop
 loop-holds c = (omega arith, λ h. (refl, h))
 
-shared-slice-read-is-label-mark : tie.Need-shared-slice-read-is-label-mark Inv-loop μ-loop
-shared-slice-read-is-label-mark c = omega arith
+shared-slice-read-is-label-active : tie.Need-shared-slice-read-is-label-active Inv-loop μ-loop
+shared-slice-read-is-label-active c = omega arith
 
-is-label-mark-requires : tie.Need-is-label-mark-requires Inv-loop μ-loop
-is-label-mark-requires c κs = search needs
+is-label-active-requires : tie.Need-is-label-active-requires Inv-loop μ-loop
+is-label-active-requires c κs = search needs
 
 tag-note-requires : tie.Need-tag-note-requires Inv-loop μ-loop
 tag-note-requires c κs = search needs
@@ -68,7 +70,7 @@ loop-less-3 : tie.Need-loop-less-3 Inv-loop μ-loop
 loop-less-3 c = omega arith
 
 loop-again-3 : tie.Need-loop-again-3 Inv-loop μ-loop
-loop-again-3 c = let inv = c .before .before .before .before .loop .inv in (omega arith, λ h. let here = inv .1 h in (here .0 ∙ scan-one _ _ _ (omega arith) (label-one _ _ (omega arith) (sym (c .before .is-label-mark .ensures) ∙ c .if1 .left)), here .1))
+loop-again-3 c = let inv = c .before .before .before .before .loop .inv in (omega arith, λ h. let here = inv .1 h in (here .0 ∙ scan-one _ _ _ (omega arith) (label-one _ _ (omega arith) (sym (c .before .is-label-active .ensures) ∙ c .if1 .left)), here .1))
 
 returns-2 : tie.Need-returns-2 Inv-loop μ-loop
 returns-2 c = ((omega arith, λ h. h), λ h. let here = c .before .loop .inv .1 h in record { ends = sym (here .0 ∙ scan-end _ _ _ (omega arith)); holds = here .1 })
@@ -80,8 +82,8 @@ label-end-spec =
     Inv-loop
     μ-loop
     loop-holds
-    shared-slice-read-is-label-mark
-    is-label-mark-requires
+    shared-slice-read-is-label-active
+    is-label-active-requires
     tag-note-requires
     label-step-requires
     enum-told

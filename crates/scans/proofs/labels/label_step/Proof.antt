@@ -1,3 +1,5 @@
+-- `label_step` meets its contract.
+-- Assumes nothing.
 use Rattle.scans.specs.Ends.{labelStep}
 use Rattle.scans.proofs.TagLaws.{opens-is}
 use borrow.Author.Needs.{needs}

@@ -1,3 +1,5 @@
+-- `label_stopper` meets its contract.
+-- Assumes nothing.
 use borrow.Author.Needs.{needs}
 use Rattle.scans.specs.Ends.{labelStopper}
 use Rattle.scans.proofs.labels.label_stopper.Statement.{statement}

@@ -1,3 +1,5 @@
+-- `tag_note` meets its contract.
+-- Assumes nothing.
 use native.Mathlib.Omega.{arith}
 use mathlib.Core.Path.{sym, _∙_}
 use Rattle.look.proofs.Laws.{byte-within}

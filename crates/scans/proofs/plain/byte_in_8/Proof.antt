@@ -1,3 +1,5 @@
+-- `byte_in_8` meets its contract. The invariant: where the byte was not met, it is none of those so far.
+-- Assumes nothing.
 use Prim.Native.Nat.{_-_, _≤_}
 use mathlib.Core.Path.{_≡_}
 use mathlib.Core.Bool.{false}

@@ -1,3 +1,5 @@
+-- `plain_8` meets its contract.
+-- Assumes nothing.
 use native.Mathlib.Omega.{arith}
 use borrow.Author.Tests.{not-true}
 use mathlib.Core.Path.{refl}

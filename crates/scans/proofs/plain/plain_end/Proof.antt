@@ -1,3 +1,5 @@
+-- `plain_end` meets its contract. The invariant of both loops: the scan from here ends where the scan from the start does.
+-- Assumes nothing.
 use Prim.Native.Nat.{_-_}
 use mathlib.Core.Path.{_≡_, refl, sym, _∙_}
 use lib.ListN.{length}
@@ -5,7 +7,7 @@ use native.Mathlib.Omega.{arith}
 use borrow.Author.Needs.{needs}
 use Rattle.scans.specs.Plain.{plainEnd}
 use Rattle.scans.proofs.Laws.{scan-end, scan-one, scan-stop}
-use Rattle.scans.proofs.PlainLaws.{over-8, mark-not, plain-one, mark-stop}
+use Rattle.scans.proofs.PlainLaws.{over-8, active-not, plain-one, active-stop}
 use Rattle.scans.proofs.plain.plain_end.Statement.{statement}
 use Rattle.scans.proofs.plain.plain_end.Tie as tie
 
@@ -39,14 +41,14 @@ loop-again c = c .before .before .loop .inv ∙ over-8 _ _ (c .before .plain-8 .
 loop2-holds : tie.Need-loop2-holds Inv-loop μ-loop Inv-loop2 μ-loop2
 loop2-holds c = c .before .before .loop .inv
 
-shared-slice-read-is-mark : tie.Need-shared-slice-read-is-mark Inv-loop μ-loop Inv-loop2 μ-loop2
-shared-slice-read-is-mark c = omega arith
+shared-slice-read-is-active : tie.Need-shared-slice-read-is-active Inv-loop μ-loop Inv-loop2 μ-loop2
+shared-slice-read-is-active c = omega arith
 
-is-mark-requires : tie.Need-is-mark-requires Inv-loop μ-loop Inv-loop2 μ-loop2
-is-mark-requires c κs = search needs
+is-active-requires : tie.Need-is-active-requires Inv-loop μ-loop Inv-loop2 μ-loop2
+is-active-requires c κs = search needs
 
 returns : tie.Need-returns Inv-loop μ-loop Inv-loop2 μ-loop2
-returns c = sym (c .before .before .before .before .loop2 .inv ∙ scan-stop _ _ _ (omega arith) (mark-stop _ _ (omega arith) (sym (c .before .is-mark .ensures) ∙ c .if2 .taken)))
+returns c = sym (c .before .before .before .before .loop2 .inv ∙ scan-stop _ _ _ (omega arith) (active-stop _ _ (omega arith) (sym (c .before .is-active .ensures) ∙ c .if2 .taken)))
 
 add-i-2 : tie.Need-add-i-2 Inv-loop μ-loop Inv-loop2 μ-loop2
 add-i-2 c = omega arith
@@ -55,7 +57,7 @@ loop2-less : tie.Need-loop2-less Inv-loop μ-loop Inv-loop2 μ-loop2
 loop2-less c = omega arith
 
 loop2-again : tie.Need-loop2-again Inv-loop μ-loop Inv-loop2 μ-loop2
-loop2-again c = c .before .before .before .before .loop2 .inv ∙ scan-one _ _ _ (omega arith) (plain-one _ _ (omega arith) (mark-not _ _ (omega arith) (sym (c .before .is-mark .ensures) ∙ c .if2 .left)))
+loop2-again c = c .before .before .before .before .loop2 .inv ∙ scan-one _ _ _ (omega arith) (plain-one _ _ (omega arith) (active-not _ _ (omega arith) (sym (c .before .is-active .ensures) ∙ c .if2 .left)))
 
 returns-2 : tie.Need-returns-2 Inv-loop μ-loop Inv-loop2 μ-loop2
 returns-2 c = sym (c .before .loop2 .inv ∙ scan-end _ _ _ (omega arith))
@@ -74,8 +76,8 @@ plain-end-spec =
     loop-less
     loop-again
     loop2-holds
-    shared-slice-read-is-mark
-    is-mark-requires
+    shared-slice-read-is-active
+    is-active-requires
     returns
     add-i-2
     loop2-less

@@ -1,0 +1,37 @@
+-- Laws about no byte and no rule: what cannot be, a choice by its arms, and the part of a text from a place on.
+-- Assumes nothing.
+use Prim.Native.Nat.{ℕ, _-_}
+use mathlib.Core.Path.{_≡_, refl}
+use mathlib.Core.Bool.{Bool, true, false, _&&_}
+use mathlib.Core.List.{List}
+use native.Mathlib.Nat.{le-refl}
+use native.Mathlib.Omega.{arith}
+use lib.ListN.{length, take, drop, length-drop}
+use lib.Seq.{take-all}
+use Rattle.basics.specs.declared.Place.{Place}
+use Rattle.basics.specs.declared.Place.the-variants.{At, Nowhere}
+
+-- where the facts at hand would make 0 and 1 equal (`cc` finds it), nothing is left to show: `absurd (differ cc)`
+pub differ : _≡_ {A = ℕ} 0 1 → ⊥
+differ z = omega arith
+
+-- both tests hold where their conjunction does
+pub both : (a b : Bool) → (a && b) ≡ true → (a ≡ true) × (b ≡ true)
+both true true h = (refl, refl)
+both true false h = (refl, h)
+both false true h = (h, refl)
+both false false h = (h, h)
+
+-- what holds of both arms, each under its outcome of the test, holds of the choice
+pub by-test : {A : Type 0} (P : A → Type 0) (t : Bool) {x y : A} → (t ≡ true → P x) → (t ≡ false → P y) → P (elim t [ true ↦ x | false ↦ y ])
+by-test P true f g = f refl
+by-test P false f g = g refl
+
+-- the same of a choice by a place that may be missing
+pub by-place : {A : Type 0} (P : A → Type 0) (c : Place) {x : ℕ → A} {y : A} → ((q : ℕ) → c ≡ At q → P (x q)) → (c ≡ Nowhere → P y) → P (elim c [ At q ↦ x q | Nowhere ↦ y ])
+by-place P (At q) f g = f q refl
+by-place P Nowhere f g = g refl
+
+-- the part of a text from i on, as the code makes it
+pub rest-is : {A : Type 0} (s : List A) (i : ℕ) → take (length s - i) (drop i s) ≡ drop i s
+rest-is s i = take-all (length s - i) (drop i s) (rw (length-drop i s) (le-refl (length s - i)))
