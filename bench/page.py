@@ -49,6 +49,20 @@ def table(head, rows):
     return "\n".join("| " + " | ".join(map(str, line)) + " |" for line in lines) + "\n"
 
 
+def rust_line(date, rustc):
+    """The line that says when and with what the Rust was counted."""
+    return f"The Rust was counted on {date} with rustc {rustc}, on x86-64."
+
+
+def rust_of(text):
+    """The Rust's counts as a page has them, and the line that says when they were made."""
+    first = {line.split(" | ")[0].removeprefix("| "): line.split(" | ")[1] for line in text.splitlines() if line.startswith("| ") and line.count(" | ") > 1}
+    square = next(line for line in text.splitlines() if line.startswith("The Rust's events on the first: "))
+    return {"rows": {(op, flag): float(first[call]) for call, op, flag in CALLS},
+            "square": int(square.split(": ")[1].rstrip(".").replace(",", "")),
+            "line": next(line for line in text.splitlines() if line.startswith("The Rust was counted on "))}
+
+
 def set_mm(facts):
     made = []
     for call, op, flag in CALLS:
@@ -120,8 +134,9 @@ def written(facts):
     _, few, added = facts["check"]
     return f"""# Instructions, beside the Rust
 
-Written by `{facts['command']}` on {facts['date']}, with rustc {facts['rustc']} and qemu {facts['qemu']}, on x86-64. Executed x86-64 instructions, counted by qemu-user with `count.c`: exact, and the same at each run
+Written by `{facts['command']}` on {facts['date']}, with qemu {facts['qemu']}, on {facts['machine']}. Executed x86-64 instructions, counted by qemu-user with `count.c`: exact, and the same at each run and on each machine
 (but the Rust's check: its tables are hashed with a random key, and its counts move by some thousand).
+{facts['rust']}
 
 ## All comments of set.mm
 

@@ -13,9 +13,9 @@ RECURSIVE = {"decimal::put_digits": DIGITS, "decimal::decimal_len": DIGITS}
 C_LIBRARY = {"memcpy", "memset", "memmove", "memcmp", "bcmp"}
 
 
-def functions(archive):
+def functions(archive, objdump):
     """Each function's instructions: the word, its operands, and the symbol that the linker puts there."""
-    text = subprocess.run(["objdump", "-dr", "--no-show-raw-insn", archive], capture_output=True, text=True, check=True).stdout
+    text = subprocess.run([objdump, "-dr", "--no-show-raw-insn", archive], capture_output=True, text=True, check=True).stdout
     found, body = {}, None
     for line in text.splitlines():
         if start := re.match(r"[0-9a-f]+ <(.*)>:$", line):
@@ -56,9 +56,9 @@ def own(name, body):
     return most, calls
 
 
-def of(archive):
+def of(archive, objdump):
     """The bytes of stack that each function takes, with all that it calls."""
-    code = {name: own(name, body) for name, body in functions(archive).items()}
+    code = {name: own(name, body) for name, body in functions(archive, objdump).items()}
     known = {}
 
     def need(name, above):
