@@ -133,6 +133,10 @@ pub fn steps(sink: &mut Sink) {
             put([4, 0, mode & 1, mode >> 1, 0, 0, 0, 0, italic, subscript], 100, b"a_ _");
         }
     }
+    // an underscore at the buffer's start, the noted subscript end elsewhere: italic, or plain where that fails
+    for text in ["_a_", "_a"] {
+        put([text.len() as u32, 0, 0, 0, 0, 0, 0, 0, none, 9], 100, text.as_bytes());
+    }
 }
 
 pub fn parser_unescaping(sink: &mut Sink) {
@@ -155,6 +159,11 @@ pub fn parser_unescaping(sink: &mut Sink) {
             let payload = [&state_bytes([end, pos, 0, html, 0, 0, 0, 0, u32::MAX, 0])[..], b"``[[~~__"].concat();
             sink.put(&Case { op: b'V', flag, a, b, room, payload, ..Case::default() });
         }
+    }
+    // document 01's sample: Text(0,4) unescaped before it is read, and after, when the mode has turned
+    for state in [[10, 0, 0, 0, 0, 0, 0, 0, u32::MAX, 0], [10, 10, 0, 1, 8, 4, 4, 4, u32::MAX, 0]] {
+        let payload = [&state_bytes(state)[..], b"a__b<HTML>"].concat();
+        sink.put(&Case { op: b'V', b: 4, room: 16, payload, ..Case::default() });
     }
 }
 

@@ -11,7 +11,7 @@ const ALONE: &[&str] = &["` a`", "a_ b", "<html>", "` c `", "~", "~ b", "[a``b]"
 const TOGETHER: &str = "`c ` x_ y <html> ~ [a``B] ~ d <HTML> ` a";
 
 fn lend_few(sink: &mut Sink) {
-    sink.lend(1, &["a", "b"]);
+    sink.lend(1, &["a", "b", "a`b"]);
     sink.lend(2, &["a", "ax-1", "a[b"]);
     sink.lend(3, &["A", "a", "a``b"]);
 }
@@ -24,10 +24,11 @@ const MALFORMED: &[(&[u32], &[u8])] = &[
     (&[1, 2, 3, 4, 6], b"abcde"),
     (&[u32::MAX], b"a"),
     (&[1], b""),
-    // an end below the one before
+    // an end below the one before, also 0
     (&[2, 1, 3, 4, 5], b"abcde"),
     (&[1, 2, 1, 4, 5], b"abcde"),
     (&[1, 2, 3, 4, 3], b"abcde"),
+    (&[1, 0], b"a"),
     // a name that is the one before, also the empty one
     (&[1, 2, 3, 4, 5], b"aacde"),
     (&[1, 2, 3, 4, 5], b"abbde"),
@@ -120,6 +121,7 @@ pub fn checks(sink: &mut Sink) {
     }
     for text in [
         "` a b c `",
+        "` a``b `",
         "`a`",
         "x` a `y",
         "x~ a",
