@@ -17,15 +17,15 @@ use Rattle.name_table.specs.declared.Spelling.the-variants.{Plain, Escap
 use Rattle.name_table.proofs.OrderLaws.{order-lower, order-higher, order-equal}
 
 -- the name from place i of the text on
-pub spelled-end : (how : Spelling) (s : List ℕ) (i : ℕ) → length s ≤ i → spelled how (drop i s) ≡ []
-unfolding spelled
-spelled-end Plain s i h = drop-of-length-le s h
-spelled-end (Escaped kind) s i h = unescape.unescaped-end (isEscape kind) s i h
-
 pub spelled-step : (how : Spelling) (s : List ℕ) (i : ℕ) → i < length s → spelled how (drop i s) ≡ getD s i 0 ∷ spelled how (drop (i + stepOf how s i) s)
 unfolding spelled stepOf
 spelled-step Plain s i h = rw (add-one, drop-cons s i 0)
 spelled-step (Escaped kind) s i h = unescape.unescaped-step (isEscape kind) s i h
+
+pub spelled-end : (how : Spelling) (s : List ℕ) (i : ℕ) → length s ≤ i → spelled how (drop i s) ≡ []
+unfolding spelled
+spelled-end Plain s i h = drop-of-length-le s h
+spelled-end (Escaped kind) s i h = unescape.unescaped-end (isEscape kind) s i h
 
 pub step-some : (how : Spelling) (s : List ℕ) (i : ℕ) → 1 ≤ stepOf how s i
 unfolding stepOf

@@ -3,18 +3,12 @@ use crate::Entry;
 use crate::Order;
 use crate::Spelling;
 use crate::ordering::compare;
+use basics::least;
 use records::Checked;
 use records::Refusal;
 ghost use mathlib.Core.Path.{_≡_};
-ghost use Prim.Native.Nat.{min};
 ghost use Rattle.records.specs.Answer.{checkedAnswer};
 ghost use Rattle.name_table.specs.Table.{endOf, startOf, nameAt, notGreater, badAt, firstBad, tableRefusal};
-
-fn least(a: usize, b: usize) -> usize
-    ensures { λ r. ⌜ r ≡ min a b ⌝ }
-{
-    if a <= b { a } else { b }
-}
 
 // Where entry i's name ends.
 fn end_of(ends: &[u32], i: usize) -> usize

@@ -44,12 +44,12 @@ start-of-requires c κs = search needs
 returns-2 : tie.Need-returns-2 Inv-loop μ-loop
 returns-2 c =
     let t = c .before .before in
-    sym (check-ends _ _ _ _ (t .loop-test .left) (sym (c .before .start-of .ensures) ∙ c .if2 .taken)) ∙ t .before .loop .inv .1
+    sym (check-ends _ _ _ _ (t .loop-test .left) (omega (arith, c .before .start-of .ensures))) ∙ t .before .loop .inv .1
 
 returns-3 : tie.Need-returns-3 Inv-loop μ-loop
 returns-3 c =
     let t = c .before .before in
-    sym (check-gap _ _ _ _ (t .loop-test .left) (λ e. c .if2 .left (c .before .start-of .ensures ∙ e))) ∙ t .before .loop .inv .1
+    sym (check-gap _ _ _ _ (t .loop-test .left) (λ e. c .if2 .left (omega (arith, c .before .start-of .ensures)))) ∙ t .before .loop .inv .1
 
 pub first-bad-spec : {M : Type 1} → statement M
 first-bad-spec =
