@@ -15,7 +15,8 @@ use Rattle.name_table.specs.Search.{isEntry, isIn}
 use Rattle.name_table.proofs.Laws.{searched-good}
 use Rattle.verify_markup.specs.Diag.{diagWidth}
 use Rattle.verify_markup.specs.Items.{lookedUp}
-use Rattle.verify_markup.specs.Check.{Table, Bibliography, lent, notLent, Tables, refusalOf, bibliographyRefusal, tablesRefusal, checkRefusal, tagsOf, namesBy, found}
+use Rattle.verify_markup.specs.Check.{Table, Bibliography, lent, notLent, Tables, refusalOf, bibliographyRefusal, tablesRefusal, checkRefusal, tagsOf, namesBy}
+use Rattle.verify_markup.specs.Lent.{found}
 
 -- ---- refusals
 
@@ -28,6 +29,21 @@ module _ (buf : List ℕ) (start end : ℕ) (t : Tables) where
     pub refused-tables : tablesRefusal t ≡ checkRefusal buf start end t
     unfolding checkRefusal
     refused-tables = rw (checkRefusal, ← good)
+
+-- the lowest table that is refused
+module _ (t : Tables) where
+  pub refused-first : (a : Answer) → some a ≡ refusalOf 1 (t .symbols) → some a ≡ tablesRefusal t
+  unfolding tablesRefusal
+  refused-first a e = rw (tablesRefusal, ← e)
+
+  module _ (good : none ≡ refusalOf 1 (t .symbols)) where
+    pub refused-second : (a : Answer) → some a ≡ refusalOf 2 (t .labels) → some a ≡ tablesRefusal t
+    unfolding tablesRefusal
+    refused-second a e = rw (tablesRefusal, ← good, ← e)
+
+    pub refused-third : none ≡ refusalOf 2 (t .labels) → bibliographyRefusal (t .bibliography) ≡ tablesRefusal t
+    unfolding tablesRefusal
+    refused-third good′ = rw (tablesRefusal, ← good, ← good′)
 
 -- ---- good tables
 

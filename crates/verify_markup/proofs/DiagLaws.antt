@@ -8,12 +8,12 @@ use native.Mathlib.Omega.{arith}
 use lib.ListN.{length, getD, length-append}
 use Rattle.byte_rules.specs.Classes.{isBlank}
 use Rattle.look.proofs.Laws.{holds-in, holds-past}
-use Rattle.records.specs.Records.{laid, wroteOf}
+use Rattle.records.specs.Records.{laid, used, wroteOf}
 use Rattle.records.specs.declared.Wrote.{Wrote}
 use Rattle.records.proofs.Laws.{Wide, laid-long}
 use Rattle.records.proofs.Laying.{Laying, tail, back, laying-wrote}
 use Rattle.records.proofs.Both.{sum, both-wrote, both-laid}
-use Rattle.verify_markup.specs.Diag.{diagWidth, diag, when, isNonblank, nonblankAt, nonblankBefore}
+use Rattle.verify_markup.specs.Diag.{diagWidth, when, isNonblank, nonblankAt, nonblankBefore}
 
 -- at most m records of diagnostics
 pub record Few (m : ℕ) (ws : List (List ℕ)) : Type 0 where
@@ -33,9 +33,10 @@ few-more h p = record { wide = p .wide; few = omega (arith, p .few) }
 pub few-none : (m : ℕ) → Few m []
 few-none m = record { wide = tt; few = omega arith }
 
-pub few-when : (t : Bool) (buf : List ℕ) (kind a b c : ℕ) → Few 1 (when t (diag buf kind a b c))
-few-when true buf kind a b c = record { wide = (refl, tt); few = omega arith }
-few-when false buf kind a b c = few-none 1
+-- a record if a test holds
+pub few-when : (t : Bool) (w : List ℕ) → length w ≡ diagWidth → Few 1 (when t w)
+few-when true w wide = record { wide = (wide, tt); few = omega arith }
+few-when false w wide = few-none 1
 
 module _ (buf : List ℕ) (i : ℕ) where
   pub nonblank-in : i < length buf → not (isBlank (getD buf i 0)) ≡ nonblankAt buf i
@@ -55,36 +56,45 @@ unfolding nonblankBefore
 before-is buf zero h = absurd (h refl)
 before-is buf (suc i) h = let e : suc i - 1 ≡ i = omega arith in rw e
 
--- ---- one writer
+-- ---- writers
 
-module _ {m : ℕ} {ws : List (List ℕ)} (p : Few m ws) (room mid : List ℕ) (a : Wrote) (laid-a : mid ≡ laid diagWidth ws room) (wrote-a : a ≡ wroteOf diagWidth ws (length room)) where
-  pub wrote-inside : (a .words ≤ length mid) × (length mid ≡ length room)
-  wrote-inside = let l = laid-long diagWidth ws room (p .wide) in (omega (arith, l, ap (λ (w : Wrote). w .words) wrote-a, ap length laid-a), ap length laid-a ∙ l .0)
+-- a writer of these records was lent `room`, left `out`, and answered w
+abbrev pub Did : List (List ℕ) → List ℕ → List ℕ → Wrote → Type 0
+Did ws room out w = (w ≡ wroteOf diagWidth ws (length room)) × (out ≡ laid diagWidth ws room)
 
-  pub wrote-count : a .count ≤ m
-  wrote-count = omega (arith, p .few, ap (λ (w : Wrote). w .count) wrote-a)
+module _ {m : ℕ} {ws : List (List ℕ)} (p : Few m ws) (room out : List ℕ) (w : Wrote) (did : Did ws room out w) where
+  pub did-inside : (w .words ≤ length out) × (length out ≡ length room)
+  did-inside = let l = laid-long diagWidth ws room (p .wide) in (omega (arith, l, ap (λ (x : Wrote). x .words) (did .0), ap length (did .1)), ap length (did .1) ∙ l .0)
 
--- ---- two writers, the second behind the first
+  pub did-count : w .count ≤ m
+  did-count = omega (arith, p .few, ap (λ (x : Wrote). x .count) (did .0))
 
+-- a writer of one record, or of none, by a test
+module _ {t : Bool} (one room : List ℕ) where
+  pub did-one : t ≡ true → (out : List ℕ) (w : Wrote) → Did (one ∷ []) room out w → Did (when t one) room out w
+  did-one e out w did = rw e did
+
+  pub did-none : t ≡ false → Did (when t one) room room (record { words = 0; count = 0 })
+  unfolding laid used
+  did-none e = rw e (refl, refl)
+
+-- two writers, the second lent the tail behind what the first wrote
 module _ {m n : ℕ} {ws vs : List (List ℕ)} (p : Few m ws) (q : Few n vs) (room mid last : List ℕ) (a b : Wrote)
-    (laid-a : mid ≡ laid diagWidth ws room) (wrote-a : a ≡ wroteOf diagWidth ws (length room))
-    (laid-b : last ≡ laid diagWidth vs (tail (a .words) mid)) (wrote-b : b ≡ wroteOf diagWidth vs (length (tail (a .words) mid))) where
-  pub pair-wrote : sum a b ≡ wroteOf diagWidth (ws ++ vs) (length room)
-  pair-wrote = both-wrote diagWidth ws vs room mid last (p .wide) a b wrote-a laid-a wrote-b laid-b
-
-  pub pair-laid : back (a .words) mid last ≡ laid diagWidth (ws ++ vs) room
-  pair-laid = both-laid diagWidth ws vs room mid last (p .wide) a b wrote-a laid-a wrote-b laid-b
+    (first : Did ws room mid a) (second : Did vs (tail (a .words) mid) last b) where
+  pub pair-did : Did (ws ++ vs) room (back (a .words) mid last) (sum a b)
+  pair-did = (
+    both-wrote diagWidth ws vs room mid last (p .wide) a b (first .0) (first .1) (second .0) (second .1),
+    both-laid diagWidth ws vs room mid last (p .wide) a b (first .0) (first .1) (second .0) (second .1),
+  )
 
   pub pair-words : a .words + b .words ≤ length room
-  pair-words = omega (arith, ap (λ (w : Wrote). w .words) pair-wrote, laid-long diagWidth (ws ++ vs) room (few-append p q .wide) .1)
+  pair-words = omega (arith, ap (λ (x : Wrote). x .words) (pair-did .0), laid-long diagWidth (ws ++ vs) room (few-append p q .wide) .1)
 
   pub pair-count : a .count + b .count ≤ m + n
-  pair-count = omega (arith, wrote-count p room mid a laid-a wrote-a, wrote-count q _ last b laid-b wrote-b)
+  pair-count = omega (arith, did-count p room mid a first, did-count q _ last b second)
 
--- ---- a turn of a loop that lays a record if a test holds
-
-module _ {all rest : List (List ℕ)} {out₀ out : List ℕ} {at n : ℕ} (t t′ : Bool) (same : t ≡ t′) (buf : List ℕ) (kind a b c : ℕ)
-    (l : Laying diagWidth all (when t′ (diag buf kind a b c) ++ rest) out₀ out at n) (last : List ℕ) (w : Wrote)
-    (is : last ≡ laid diagWidth (when t (diag buf kind a b c)) (tail at out)) (wrote : w ≡ wroteOf diagWidth (when t (diag buf kind a b c)) (length (tail at out))) where
+-- a turn of a loop that lays a record if a test holds
+module _ {all rest : List (List ℕ)} {out₀ out : List ℕ} {at n : ℕ} (t t′ : Bool) (same : t ≡ t′) (one : List ℕ) (wide : length one ≡ diagWidth)
+    (l : Laying diagWidth all (when t′ one ++ rest) out₀ out at n) (last : List ℕ) (w : Wrote) (did : Did (when t one) (tail at out) last w) where
   pub turn-laid : (at + w .words ≤ length out) × Laying diagWidth all rest out₀ (back at out last) (at + w .words) (n + w .count)
-  turn-laid = laying-wrote (when t (diag buf kind a b c)) rest last (rw same l) (few-when t buf kind a b c .wide) is w wrote
+  turn-laid = laying-wrote (when t one) rest last (rw same l) (few-when t one wide .wide) (did .1) w (did .0)

@@ -1,4 +1,4 @@
--- Laws of what an event gives: how many records it is at most, and the marks of a tag, place by place.
+-- Laws of what an event gives: how many records it is at most, and the escapes of a tag, place by place.
 -- Assumes nothing.
 use Prim.Native.Nat.{ℕ, zero, suc, _+_, _-_, _≤_, _<_}
 use mathlib.Core.Path.{_≡_, refl}
@@ -6,6 +6,7 @@ use mathlib.Core.Bool.{Bool, true, false, not, _||_}
 use mathlib.Core.List.{List, [], _++_}
 use native.Mathlib.Omega.{arith}
 use lib.Dec.{eqb}
+use borrow.Author.Tests.{ne-eqb}
 use Rattle.look.specs.Look.{byteAt}
 use Rattle.scans.specs.Marks.{tick, tilde}
 use Rattle.unescape.specs.Unescape.{isEscape, unescaped, part}
@@ -13,48 +14,54 @@ use Rattle.unescape.specs.declared.Escape.the-variants as escape
 use Rattle.comment_parser.specs.Item.{placedOf}
 use Rattle.comment_parser.specs.declared.CommentItem.{CommentItem}
 use Rattle.comment_parser.specs.declared.CommentItem.the-variants.{Text, LineBreak, StartMathMode, EndMathMode, MathToken, Label, Url, StartHtml, EndHtml, StartSubscript, EndSubscript, StartItalic, EndItalic, BibTag}
-use Rattle.verify_markup.specs.Diag.{diag, when, nonblankAt, nonblankBefore, spaceBefore, spaceAfter}
-use Rattle.verify_markup.specs.Items.{Tags, Names, noTag, tokenDiags, tildeDiags, linkDiags, nameDiags, labelDiags, tagMarks, tagDiags, itemDiags}
+use Rattle.verify_markup.specs.Diag.{when, nonblankAt, nonblankBefore, spaceBefore, spaceAfter, unknownLabel, bibEscape}
+use Rattle.verify_markup.specs.Items.{Tags, Names, noTag, tokenDiags, tildeDiags, linkDiags, nameDiags, labelDiags, bibEscapes, tagDiags, itemDiags}
 use Rattle.verify_markup.proofs.DiagLaws.{Few, few-append, few-more, few-none, few-when}
 use Rattle.verify_markup.proofs.TextLaws.{few-written}
 
 module _ (buf : List ℕ) where
   module _ (a e : ℕ) where
-    pub marks-on : (i : ℕ) → i < e → tagMarks buf a e (e - i) i ≡ when (byteAt buf i tick || byteAt buf i tilde) (diag buf 7 i a e) ++ tagMarks buf a e (e - (i + 1)) (i + 1)
-    unfolding tagMarks
-    marks-on i h = let some : e - i ≡ suc (e - (i + 1)) = omega arith in rw some
+    pub escapes-on : (i : ℕ) → i < e → bibEscapes buf a e (e - i) i ≡ when (byteAt buf i tick || byteAt buf i tilde) (bibEscape buf i a e) ++ bibEscapes buf a e (e - (i + 1)) (i + 1)
+    unfolding bibEscapes
+    escapes-on i h = let some : e - i ≡ suc (e - (i + 1)) = omega arith in rw some
 
-    pub marks-end : (i : ℕ) → e ≤ i → tagMarks buf a e (e - i) i ≡ []
-    unfolding tagMarks
-    marks-end i h = let none : e - i ≡ 0 = omega arith in rw none
+    pub escapes-end : (i : ℕ) → e ≤ i → bibEscapes buf a e (e - i) i ≡ []
+    unfolding bibEscapes
+    escapes-end i h = let none : e - i ≡ 0 = omega arith in rw none
 
-    pub few-marks : (left i : ℕ) → Few left (tagMarks buf a e left i)
-    unfolding tagMarks
-    few-marks zero i = few-none 0
-    few-marks (suc left) i = few-more (omega arith) (few-append (few-when (byteAt buf i tick || byteAt buf i tilde) buf 7 i a e) (few-marks left (i + 1)))
+    pub few-escapes : (left i : ℕ) → Few left (bibEscapes buf a e left i)
+    unfolding bibEscapes
+    few-escapes zero i = few-none 0
+    few-escapes (suc left) i = few-more (omega arith) (few-append (few-when (byteAt buf i tick || byteAt buf i tilde) _ refl) (few-escapes left (i + 1)))
 
     pub few-tag : (tags : Tags) → Few (e - a + 1) (tagDiags buf tags a e)
     unfolding tagDiags
-    few-tag tags = few-append (few-marks (e - a) a) (few-when (noTag tags (part buf a e)) buf 8 a e 0)
+    few-tag tags = few-append (few-escapes (e - a) a) (few-when (noTag tags (part buf a e)) _ refl)
 
     pub few-token : (isSymbol : List ℕ → Bool) → Few 1 (tokenDiags buf isSymbol a e)
     unfolding tokenDiags
-    few-token isSymbol = few-when (not (isSymbol (unescaped (isEscape escape.Math) (part buf a e)))) buf 4 a e 0
+    few-token isSymbol = few-when (not (isSymbol (unescaped (isEscape escape.Math) (part buf a e)))) _ refl
+
+    -- a label that is not empty, by what was found of its name
+    pub name-by : (isLabel : List ℕ → Bool) (i : ℕ) (unknown : Bool) → (a ≡ e → ⊥) → unknown ≡ not (isLabel (unescaped (isEscape escape.Label) (part buf a e)))
+        → nameDiags buf isLabel i a e ≡ when unknown (unknownLabel buf a e)
+    unfolding nameDiags
+    name-by isLabel i unknown h is = rw (nameDiags, ne-eqb a e h, is)
 
     pub few-name : (isLabel : List ℕ → Bool) (i : ℕ) → Few 1 (nameDiags buf isLabel i a e)
     unfolding nameDiags
     few-name isLabel i = go (eqb a e) refl
       where
         go : (b : Bool) → eqb a e ≡ b → Few 1 (nameDiags buf isLabel i a e)
-        go true x = rw (nameDiags, x) (few-when true buf 5 i 0 0)
-        go false x = rw (nameDiags, x) (few-when (not (isLabel (unescaped (isEscape escape.Label) (part buf a e)))) buf 6 a e 0)
+        go true x = rw (nameDiags, x) (few-when true _ refl)
+        go false x = rw (nameDiags, x) (few-when (not (isLabel (unescaped (isEscape escape.Label) (part buf a e)))) _ refl)
 
   module _ (i : ℕ) where
     pub few-before : Few 1 (spaceBefore buf i)
-    few-before = few-when (nonblankBefore buf i) buf 1 i 0 0
+    few-before = few-when (nonblankBefore buf i) _ refl
 
     pub few-after : Few 1 (spaceAfter buf i)
-    few-after = few-when (nonblankAt buf (i + 1)) buf 1 i 0 0
+    few-after = few-when (nonblankAt buf (i + 1)) _ refl
 
     pub few-tilde : Few 2 (tildeDiags buf i)
     unfolding tildeDiags

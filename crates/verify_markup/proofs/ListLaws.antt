@@ -15,7 +15,7 @@ use Rattle.scans.specs.declared.Note.{Note}
 use Rattle.basics.specs.declared.Place.{Place}
 use Rattle.basics.specs.declared.Place.the-variants.{At, Nowhere}
 use Rattle.records.specs.Answer.{longest}
-use Rattle.records.specs.Records.{laid, wroteOf}
+use Rattle.records.specs.Records.{laid}
 use Rattle.records.specs.declared.Wrote.{Wrote}
 use Rattle.records.proofs.Laying.{Laying, tail, back, laying-starts, laying-wrote, all-counted, all-laid}
 use Rattle.comment_parser.specs.Item.{placedOf, Within}
@@ -33,11 +33,12 @@ use Rattle.comment_parser.proofs.Events.{events-on, events-end, stays-accepted}
 use Rattle.comment_parser.proofs.Reached.{seen-lies}
 use Rattle.comment_parser.proofs.InOrder.{given, seen-in-order, given-le}
 use Rattle.comment_parser.proofs.Along.{Along, along-starts, along-event, along-less, along-within, along-on}
-use Rattle.verify_markup.specs.Diag.{diagWidth}
+use Rattle.verify_markup.specs.Diag.{diagWidth, unclosedMathMarkup, unclosedHtml}
 use Rattle.verify_markup.specs.Items.{Names, itemDiags}
-use Rattle.verify_markup.specs.List.{Opened, isOpen, closed, modesAfter, unclosed, lastDiags, diagsFrom, diagnostics}
+use Rattle.verify_markup.specs.List.{isOpen, closed, modesAfter, unclosed, lastDiags, diagsFrom, diagnostics}
+use Rattle.verify_markup.specs.Bounds.{Opened}
 use Rattle.verify_markup.specs.declared.Modes.{Modes}
-use Rattle.verify_markup.proofs.DiagLaws.{Few, few-append, few-none, few-when, wrote-count}
+use Rattle.verify_markup.proofs.DiagLaws.{Few, few-append, few-none, few-when, Did, did-count}
 use Rattle.verify_markup.proofs.ItemLaws.{few-item}
 
 -- ---- the events that give nothing, and those that keep the modes, told by their tags
@@ -101,13 +102,19 @@ opened-after m (StartItalic i) h o = o
 opened-after m (EndItalic i) h o = o
 opened-after m (BibTag s) h o = o
 
-pub few-unclosed : (buf : List ℕ) (end kind : ℕ) (p : Place) → Few 1 (unclosed buf end kind p)
-few-unclosed buf end kind (At i) = few-when true buf kind i end 0
-few-unclosed buf end kind Nowhere = few-none 1
+pub few-unclosed : (made : ℕ → ℕ → List ℕ) (end : ℕ) → ((i e : ℕ) → length (made i e) ≡ diagWidth) → (p : Place) → Few 1 (unclosed made end p)
+few-unclosed made end wide (At i) = few-when true (made i end) (wide i end)
+few-unclosed made end wide Nowhere = few-none 1
+
+pub few-unclosed-math : (buf : List ℕ) (end : ℕ) (p : Place) → Few 1 (unclosed (unclosedMathMarkup buf) end p)
+few-unclosed-math buf end = few-unclosed (unclosedMathMarkup buf) end (λ i e. refl)
+
+pub few-unclosed-html : (buf : List ℕ) (end : ℕ) (p : Place) → Few 1 (unclosed (unclosedHtml buf) end p)
+few-unclosed-html buf end = few-unclosed (unclosedHtml buf) end (λ i e. refl)
 
 pub few-last : (buf : List ℕ) (end : ℕ) (m : Modes) → Few 2 (lastDiags buf end m)
 unfolding lastDiags
-few-last buf end m = few-append (few-unclosed buf end 9 (m .math)) (few-unclosed buf end 10 (m .html))
+few-last buf end m = few-append (few-unclosed-math buf end (m .math)) (few-unclosed-html buf end (m .html))
 
 -- ---- the loop
 
@@ -146,19 +153,19 @@ module _ {n : Names} {buf : List ℕ} {start end : ℕ} {out₀ out : List ℕ} 
       (r : NextNoted) → (Holds (take (st .end) buf) note → Answers (take (st .end) buf) (nextOf rust buf st) r)
       → (i : CommentItem) (t : ParserState) → r .next ≡ Event t i
       → (html : Bool) → html ≡ isOpen (m .html)
-      → (w : Wrote) (last : List ℕ) → w ≡ wroteOf diagWidth (itemDiags buf n html i) (length (tail at out)) → last ≡ laid diagWidth (itemDiags buf n html i) (tail at out)
+      → (w : Wrote) (last : List ℕ) → Did (itemDiags buf n html i) (tail at out) last w
       → (at + w .words ≤ length out) × Going n buf start end out₀ (back at out last) t (r .note) (modesAfter m i) (at + w .words) (k + w .count)
-  going-on r says i t e html same w last wrote is =
+  going-on r says i t e html same w last did =
       let item = few-item buf n html i in
       let on = along-event (g .along) says e in
       let less = along-less (g .along) says e in
       let next = along-on (g .along) says e in
       let order = seen-in-order rust buf st (i, t) on (g .along .reached) in
       let fits = along-within (g .along) says e in
-      let count = wrote-count item (tail at out) last w is wrote in
+      let count = did-count item (tail at out) last w did in
       let rest = diagsFrom buf end n (modesAfter m i) (eventsFrom rust buf t) in
       let to-come : Laying diagWidth (diagnostics n buf start end) (itemDiags buf n html i ++ rest) out₀ out at k = rw same (rw (diags-on buf end n m st i t on) at (g .laying)) in
-      let lies = laying-wrote (itemDiags buf n html i) rest last to-come (item .wide) is w wrote in (
+      let lies = laying-wrote (itemDiags buf n html i) rest last to-come (item .wide) (did .1) w (did .0) in (
         lies .0,
         record {
           along = next;
@@ -184,9 +191,9 @@ module _ {n : Names} {buf : List ℕ} {start end : ℕ} {out₀ out : List ℕ} 
 
 -- the last records were laid in the tail, and `last` is the tail since
 pub last-laid : {all ws : List (List ℕ)} {out₀ out : List ℕ} {at k m : ℕ} → Laying diagWidth all ws out₀ out at k → Few m ws
-    → (w : Wrote) (last : List ℕ) → w ≡ wroteOf diagWidth ws (length (tail at out)) → last ≡ laid diagWidth ws (tail at out)
+    → (w : Wrote) (last : List ℕ) → Did ws (tail at out) last w
     → (k + w .count ≡ length all) × (back at out last ≡ laid diagWidth all out₀)
-last-laid {all} {ws} {out₀} {out} {at} {k} l f w last wrote is =
+last-laid {all} {ws} {out₀} {out} {at} {k} l f w last did =
     let to-come : Laying diagWidth all (ws ++ []) out₀ out at k = rw (append-nil ws) l in
-    let done = laying-wrote ws [] last to-come (f .wide) is w wrote .1 in
+    let done = laying-wrote ws [] last to-come (f .wide) (did .1) w (did .0) .1 in
     (all-counted done, all-laid done)

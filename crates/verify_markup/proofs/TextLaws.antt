@@ -21,7 +21,7 @@ use Rattle.unescape.specs.declared.Escape.{Escape}
 use Rattle.unescape.proofs.Laws.{step-some}
 use Rattle.comment_parser.specs.Item.{span}
 use Rattle.basics.specs.declared.Span.{Span}
-use Rattle.verify_markup.specs.Diag.{diag, when}
+use Rattle.verify_markup.specs.Diag.{when, uninterpretedEscape}
 use Rattle.verify_markup.specs.Texts.{isReported, isLetter, foldedAt, htmlLen, htmlFrom, loneAt, loneFrom, htmlIn, written}
 use Rattle.verify_markup.proofs.DiagLaws.{Few, few-append, few-none, few-more, few-when}
 
@@ -46,7 +46,7 @@ module _ (buf : List ℕ) (kind : Escape) where
     lone-over zero i h = refl
     lone-over (suc turns) i h = rw (loneFrom, le-ltb i e h)
 
-    lone-step : (turns i : ℕ) → i < e → loneFrom buf kind e (suc turns) i ≡ when (loneAt buf kind i) (diag buf 2 i 0 0) ++ loneFrom buf kind e turns (step i)
+    lone-step : (turns i : ℕ) → i < e → loneFrom buf kind e (suc turns) i ≡ when (loneAt buf kind i) (uninterpretedEscape buf i) ++ loneFrom buf kind e turns (step i)
     unfolding loneFrom
     lone-step turns i h = rw (loneFrom, lt-ltb i e h)
 
@@ -60,14 +60,14 @@ module _ (buf : List ℕ) (kind : Escape) where
         go (no h) ih = lone-over (suc m) i (omega arith) ∙ sym (lone-over (suc n) i (omega arith))
         go (yes h) ih =
             let s = step-some (isEscape kind) buf i in
-            lone-step m i h ∙ ap (λ (l : List (List ℕ)). when (loneAt buf kind i) (diag buf 2 i 0 0) ++ l) (ih (omega arith) (omega arith)) ∙ sym (lone-step n i h)
+            lone-step m i h ∙ ap (λ (l : List (List ℕ)). when (loneAt buf kind i) (uninterpretedEscape buf i) ++ l) (ih (omega arith) (omega arith)) ∙ sym (lone-step n i h)
 
-    pub lone-on : (i : ℕ) → i < e → loneFrom buf kind e (e - i) i ≡ when (loneAt buf kind i) (diag buf 2 i 0 0) ++ loneFrom buf kind e (e - step i) (step i)
+    pub lone-on : (i : ℕ) → i < e → loneFrom buf kind e (e - i) i ≡ when (loneAt buf kind i) (uninterpretedEscape buf i) ++ loneFrom buf kind e (e - step i) (step i)
     lone-on i h =
         let some : e - i ≡ suc (e - i - 1) = omega arith in
         let s = step-some (isEscape kind) buf i in
         ap (λ (n : ℕ). loneFrom buf kind e n i) some ∙ lone-step (e - i - 1) i h
-        ∙ ap (λ (l : List (List ℕ)). when (loneAt buf kind i) (diag buf 2 i 0 0) ++ l) (lone-same (e - i - 1) (e - step i) (step i) (omega arith) (omega arith))
+        ∙ ap (λ (l : List (List ℕ)). when (loneAt buf kind i) (uninterpretedEscape buf i) ++ l) (lone-same (e - i - 1) (e - step i) (step i) (omega arith) (omega arith))
 
     pub lone-ends : (i : ℕ) → e ≤ i → loneFrom buf kind e (e - i) i ≡ []
     lone-ends i h = lone-over (e - i) i h
@@ -81,7 +81,7 @@ module _ (buf : List ℕ) (kind : Escape) where
         go (no h) ih = rw (lone-over (suc turns) i (omega arith)) (few-none (e - i))
         go (yes h) ih =
             let s = step-some (isEscape kind) buf i in
-            rw (lone-step turns i h) (few-more (omega arith) (few-append (few-when (loneAt buf kind i) buf 2 i 0 0) ih))
+            rw (lone-step turns i h) (few-more (omega arith) (few-append (few-when (loneAt buf kind i) _ refl) ih))
 
 -- ---- words in any case
 
@@ -124,7 +124,7 @@ module _ (s : List ℕ) where
   unfolding htmlLen
   len-within i h = go (foldedAt s i openHtml) (foldedAt s i closeHtml) refl refl
     where
-      go : (a b : Bool) → foldedAt s i openHtml ≡ a → foldedAt s i closeHtml ≡ b → i + cond a 6 (cond b 7 0) ≤ length s
+      go : (a b : Bool) → foldedAt s i openHtml ≡ a → foldedAt s i closeHtml ≡ b → i + cond a (length openHtml) (cond b (length closeHtml) 0) ≤ length s
       go true b p q = folded-within openHtml i h p
       go false true p q = folded-within closeHtml i h q
       go false false p q = omega arith
@@ -159,7 +159,7 @@ module _ (s : List ℕ) where
 module _ (buf : List ℕ) (a e : ℕ) where
   pub few-html : Few 1 (htmlIn buf a e)
   unfolding htmlIn
-  few-html = let m = htmlFrom (take e buf) (e - a) a in few-when (ltb (m .start) (m .end)) buf 3 (m .start) (m .end) 0
+  few-html = let m = htmlFrom (take e buf) (e - a) a in few-when (ltb (m .start) (m .end)) _ refl
 
   pub few-written : (kind : Escape) → Few (e - a + 1) (written buf kind a e)
   unfolding written

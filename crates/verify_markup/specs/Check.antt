@@ -2,18 +2,16 @@
 use Prim.Native.Nat.{ℕ}
 use mathlib.Core.Bool.{Bool}
 use mathlib.Core.List.{List}
-use mathlib.Core.Option.{Option, none, some}
+use mathlib.Core.Option.{Option, none}
 use lib.ListN.{length}
 use Rattle.basics.specs.Choice.{orElse}
 use Rattle.records.specs.Answer.{Answer, spanRefusal}
 use Rattle.records.specs.Records.{listAnswer, listLeft}
 use Rattle.name_table.specs.Table.{tableRefusal}
-use Rattle.name_table.specs.Search.{isEntry, isIn, searched}
+use Rattle.name_table.specs.Search.{isIn}
 use Rattle.verify_markup.specs.Diag.{diagWidth}
 use Rattle.verify_markup.specs.List.{diagnostics}
 use Rattle.verify_markup.specs.Items.{Tags, lookedUp, notLookedUp, Names}
-use Rattle.verify_markup.specs.declared.TagLookup.{TagLookup}
-use Rattle.verify_markup.specs.declared.TagLookup.the-variants.{LookedUp, NotLookedUp}
 
 -- a lent table: bytes and ends
 pub record Table : Type 0 where
@@ -61,24 +59,20 @@ namesBy has t = record {
 abbrev pub namesOf : Tables → Names
 namesOf = namesBy isIn
 
--- the test that the code makes: over good tables it is membership
-abbrev pub found : List ℕ → List ℕ → List ℕ → Bool
-found bytes ends name = isEntry (searched bytes ends name)
-
--- the tables as they are lent to the code
+-- the tables by their bytes and ends
 abbrev pub table : List ℕ → List ℕ → Table
 table bytes ends = record { bytes = bytes; ends = ends }
-
-abbrev pub bibliographyOf : TagLookup → List ℕ → List ℕ → Bibliography
-bibliographyOf LookedUp bytes ends = lent (table bytes ends)
-bibliographyOf NotLookedUp bytes ends = notLent
 
 abbrev pub tables : List ℕ → List ℕ → List ℕ → List ℕ → Bibliography → Tables
 tables sb se lb le bib = record { symbols = table sb se; labels = table lb le; bibliography = bib }
 
+-- the diagnostics of the span; neighbours and doubling are looked up in the whole buffer
+abbrev pub checkDiags : List ℕ → ℕ → ℕ → Tables → List (List ℕ)
+checkDiags buf start end t = diagnostics (namesOf t) buf start end
+
 -- what the check answers, and what it leaves in a room
 abbrev pub checkAnswer : List ℕ → ℕ → ℕ → Tables → ℕ → Answer
-checkAnswer buf start end t room = listAnswer (checkRefusal buf start end t) diagWidth (diagnostics (namesOf t) buf start end) room
+checkAnswer buf start end t room = listAnswer (checkRefusal buf start end t) diagWidth (checkDiags buf start end t) room
 
 abbrev pub checkLeft : List ℕ → ℕ → ℕ → Tables → List ℕ → List ℕ
-checkLeft buf start end t room = listLeft (checkRefusal buf start end t) diagWidth (diagnostics (namesOf t) buf start end) room
+checkLeft buf start end t room = listLeft (checkRefusal buf start end t) diagWidth (checkDiags buf start end t) room

@@ -8,8 +8,9 @@ use Rattle.scans.specs.Marks.{tick, tilde}
 use Rattle.unescape.specs.Unescape.{isEscape, unescaped, part}
 use Rattle.unescape.specs.declared.Escape.the-variants as escape
 use Rattle.comment_parser.specs.declared.CommentItem.{CommentItem}
-use Rattle.comment_parser.specs.declared.CommentItem.the-variants.{Text, LineBreak, StartMathMode, EndMathMode, MathToken, Label, Url, StartHtml, EndHtml, StartSubscript, EndSubscript, StartItalic, EndItalic, BibTag}
-use Rattle.verify_markup.specs.Diag.{diag, when, spaceBefore, spaceAfter}
+use Rattle.comment_parser.specs.declared.CommentItem.the-variants.{Text, LineBreak, StartMathMode, EndMathMode, MathToken, Label, Url}
+use Rattle.comment_parser.specs.declared.CommentItem.the-variants.{StartHtml, EndHtml, StartSubscript, EndSubscript, StartItalic, EndItalic, BibTag}
+use Rattle.verify_markup.specs.Diag.{when, spaceBefore, spaceAfter, undefinedToken, emptyLabel, unknownLabel, bibEscape, undefinedBibTag}
 use Rattle.verify_markup.specs.Texts.{written}
 
 -- tags are looked up, by a test that tells which are known, or not looked up
@@ -28,9 +29,9 @@ pub record Names : Type 0 where
   pub tags : Tags
 
 module _ (buf : List ℕ) where
-  -- 4
+  -- 4 if it is no symbol
   unfoldable pub tokenDiags : (List ℕ → Bool) → ℕ → ℕ → List (List ℕ)
-  tokenDiags isSymbol a e = when (not (isSymbol (unescaped (isEscape escape.Math) (part buf a e)))) (diag buf 4 a e 0)
+  tokenDiags isSymbol a e = when (not (isSymbol (unescaped (isEscape escape.Math) (part buf a e)))) (undefinedToken buf a e)
 
   -- 1 for the byte before the tilde, 1 for the byte after, then 2 at each lone escape, 3
   unfoldable pub tildeDiags : ℕ → List (List ℕ)
@@ -41,19 +42,21 @@ module _ (buf : List ℕ) where
 
   -- 5 if empty, else 6 if not found
   unfoldable pub nameDiags : (List ℕ → Bool) → ℕ → ℕ → ℕ → List (List ℕ)
-  nameDiags isLabel i a e = cond (eqb a e) (diag buf 5 i 0 0 ∷ []) (when (not (isLabel (unescaped (isEscape escape.Label) (part buf a e)))) (diag buf 6 a e 0))
+  nameDiags isLabel i a e =
+      cond (eqb a e) (emptyLabel buf i ∷ [])
+      (when (not (isLabel (unescaped (isEscape escape.Label) (part buf a e)))) (unknownLabel buf a e))
 
   unfoldable pub labelDiags : (List ℕ → Bool) → ℕ → ℕ → ℕ → List (List ℕ)
   labelDiags isLabel i a e = linkDiags i a e ++ nameDiags isLabel i a e
 
   -- 7 at each backtick or `~` of the `left` bytes from i on of the tag from a to e
-  unfoldable pub tagMarks : ℕ → ℕ → ℕ → ℕ → List (List ℕ)
-  tagMarks a e zero i = []
-  tagMarks a e (suc left) i = when (byteAt buf i tick || byteAt buf i tilde) (diag buf 7 i a e) ++ tagMarks a e left (i + 1)
+  unfoldable pub bibEscapes : ℕ → ℕ → ℕ → ℕ → List (List ℕ)
+  bibEscapes a e zero i = []
+  bibEscapes a e (suc left) i = when (byteAt buf i tick || byteAt buf i tilde) (bibEscape buf i a e) ++ bibEscapes a e left (i + 1)
 
   -- then 8; a tag is looked up as it stands
   unfoldable pub tagDiags : Tags → ℕ → ℕ → List (List ℕ)
-  tagDiags tags a e = tagMarks a e (e - a) a ++ when (noTag tags (part buf a e)) (diag buf 8 a e 0)
+  tagDiags tags a e = bibEscapes a e (e - a) a ++ when (noTag tags (part buf a e)) (undefinedBibTag buf a e)
 
   -- `html` says whether the event stands in HTML
   abbrev pub itemDiags : Names → Bool → CommentItem → List (List ℕ)

@@ -3,3 +3,5 @@ pub mod Texts
 pub mod Items
 pub mod List
 pub mod Check
+pub mod Lent
+pub mod Bounds

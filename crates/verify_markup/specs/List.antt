@@ -1,22 +1,17 @@
 -- The diagnostics of a span: those of each event, one after the other along the events, with the modes carried; last 9, then 10.
-use Prim.Native.Nat.{ℕ, _≤_}
+use Prim.Native.Nat.{ℕ}
 use mathlib.Core.Bool.{Bool, true, false}
 use mathlib.Core.List.{List, [], _∷_, _++_}
 use Rattle.byte_rules.specs.Reading.{rust}
-use Rattle.records.specs.Answer.{longest}
 use Rattle.basics.specs.declared.Place.{Place}
 use Rattle.basics.specs.declared.Place.the-variants.{At, Nowhere}
 use Rattle.comment_parser.specs.Events.{eventsOf}
 use Rattle.comment_parser.specs.declared.CommentItem.{CommentItem}
-use Rattle.comment_parser.specs.declared.CommentItem.the-variants.{Text, LineBreak, StartMathMode, EndMathMode, MathToken, Label, Url, StartHtml, EndHtml, StartSubscript, EndSubscript, StartItalic, EndItalic, BibTag}
+use Rattle.comment_parser.specs.declared.CommentItem.the-variants.{Text, LineBreak, StartMathMode, EndMathMode, MathToken, Label, Url}
+use Rattle.comment_parser.specs.declared.CommentItem.the-variants.{StartHtml, EndHtml, StartSubscript, EndSubscript, StartItalic, EndItalic, BibTag}
 use Rattle.verify_markup.specs.declared.Modes.{Modes}
-use Rattle.verify_markup.specs.Diag.{diag}
+use Rattle.verify_markup.specs.Diag.{unclosedMathMarkup, unclosedHtml}
 use Rattle.verify_markup.specs.Items.{Names, itemDiags}
-
--- an opening's place fits a word
-abbrev pub Opened : Place → Type 0
-Opened (At i) = i ≤ longest
-Opened Nowhere = Unit
 
 abbrev pub isOpen : Place → Bool
 isOpen (At i) = true
@@ -45,14 +40,14 @@ modesAfter m (StartItalic i) = m
 modesAfter m (EndItalic i) = m
 modesAfter m (BibTag s) = m
 
-module _ (buf : List ℕ) (end : ℕ) where
-  -- a mode that is open at the end of the span
-  abbrev pub unclosed : ℕ → Place → List (List ℕ)
-  unclosed kind (At i) = diag buf kind i end 0 ∷ []
-  unclosed kind Nowhere = []
+-- the record that is made of a mode that is open at the end of the span
+abbrev pub unclosed : (ℕ → ℕ → List ℕ) → ℕ → Place → List (List ℕ)
+unclosed made end (At i) = made i end ∷ []
+unclosed made end Nowhere = []
 
+module _ (buf : List ℕ) (end : ℕ) where
   unfoldable pub lastDiags : Modes → List (List ℕ)
-  lastDiags m = unclosed 9 (m .math) ++ unclosed 10 (m .html)
+  lastDiags m = unclosed (unclosedMathMarkup buf) end (m .math) ++ unclosed (unclosedHtml buf) end (m .html)
 
   unfoldable pub diagsFrom : Names → Modes → List CommentItem → List (List ℕ)
   diagsFrom n m [] = lastDiags m

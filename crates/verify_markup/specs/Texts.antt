@@ -3,7 +3,7 @@ use Prim.Native.Nat.{ℕ, zero, suc, _+_, _-_}
 use mathlib.Core.Bool.{Bool, true, cond, not, _&&_}
 use mathlib.Core.List.{List, [], _∷_, _++_}
 use lib.Dec.{ltb, eqb}
-use lib.ListN.{take}
+use lib.ListN.{length, take}
 use Rattle.byte_rules.specs.Classes.{isTextEscape, isLabelEscape, isMathEscape}
 use Rattle.byte_rules.specs.Names.{upper}
 use Rattle.look.specs.Look.{holdsAt}
@@ -13,7 +13,7 @@ use Rattle.unescape.specs.declared.Escape.{Escape}
 use Rattle.unescape.specs.declared.Escape.the-variants.{Text, Label, Math}
 use Rattle.comment_parser.specs.Item.{span}
 use Rattle.basics.specs.declared.Span.{Span}
-use Rattle.verify_markup.specs.Diag.{diag, when}
+use Rattle.verify_markup.specs.Diag.{when, uninterpretedEscape, uninterpretedHtml}
 
 -- the escape bytes that are reported: each but a Text's `[`
 unfoldable pub isReported : Escape → ℕ → Bool
@@ -32,7 +32,7 @@ foldedAt s i (b ∷ bs) = holdsAt (isLetter b) s i && foldedAt s (i + 1) bs
 
 -- how long the HTML mark at i is: 0 if there is none
 unfoldable pub htmlLen : List ℕ → ℕ → ℕ
-htmlLen s i = cond (foldedAt s i openHtml) 6 (cond (foldedAt s i closeHtml) 7 0)
+htmlLen s i = cond (foldedAt s i openHtml) (length openHtml) (cond (foldedAt s i closeHtml) (length closeHtml) 0)
 
 -- the first HTML mark among the `left` places from i on; an empty span if there is none
 unfoldable pub htmlFrom : List ℕ → ℕ → ℕ → Span
@@ -49,11 +49,11 @@ module _ (buf : List ℕ) where
   loneFrom kind e zero i = []
   loneFrom kind e (suc turns) i =
       let rest = loneFrom kind e turns (i + stepAt (isEscape kind) buf i) in
-      cond (ltb i e) (when (loneAt kind i) (diag buf 2 i 0 0) ++ rest) []
+      cond (ltb i e) (when (loneAt kind i) (uninterpretedEscape buf i) ++ rest) []
 
   -- 3 for the first HTML mark within the span
   unfoldable pub htmlIn : ℕ → ℕ → List (List ℕ)
-  htmlIn a e = let m = htmlFrom (take e buf) (e - a) a in when (ltb (m .start) (m .end)) (diag buf 3 (m .start) (m .end) 0)
+  htmlIn a e = let m = htmlFrom (take e buf) (e - a) a in when (ltb (m .start) (m .end)) (uninterpretedHtml buf (m .start) (m .end))
 
   unfoldable pub written : Escape → ℕ → ℕ → List (List ℕ)
   written kind a e = loneFrom kind e (e - a) a ++ htmlIn a e

@@ -2,6 +2,7 @@
 use crate::Modes;
 use crate::TagLookup;
 use crate::items::lay_item;
+use crate::kinds::DIAG_WIDTH;
 use crate::opened::lay_last;
 use basics::Place;
 use comment_parser::Next;
@@ -15,12 +16,11 @@ ghost use mathlib.Core.Path.{_≡_};
 ghost use lib.ListN.{length};
 ghost use Rattle.records.specs.Answer.{filledAnswer, checkedAnswer};
 ghost use Rattle.records.specs.Records.{laid};
-ghost use Rattle.verify_markup.specs.Diag.{diagWidth, InBuf};
+ghost use Rattle.verify_markup.specs.Diag.{diagWidth};
 ghost use Rattle.verify_markup.specs.List.{diagnostics};
-ghost use Rattle.verify_markup.specs.Check.{found, bibliographyOf, tables, namesBy, tablesRefusal, checkAnswer, checkLeft};
-
-// How many words a diagnostic's record has.
-pub const DIAG_WIDTH: usize = 4;
+ghost use Rattle.verify_markup.specs.Check.{tablesRefusal, checkAnswer, checkLeft};
+ghost use Rattle.verify_markup.specs.Lent.{lentTables, lentNames};
+ghost use Rattle.verify_markup.specs.Bounds.{InBuf};
 
 // Lays the diagnostics of the span, as many as fit, and counts them.
 fn lay_all(
@@ -37,8 +37,12 @@ fn lay_all(
     out: &mut [u32],
 ) -> usize
     requires { ⌜ InBuf (now buf) start end ⌝ }
-    ensures count { λ r. ⌜ r ≡ length (diagnostics (namesBy found (tables (now (sb .entry)) (now (se .entry)) (now (lb .entry)) (now (le .entry)) (bibliographyOf tags (now (bb .entry)) (now (be .entry))))) (now (buf .entry)) start end) ⌝ }
-    ensures left { λ r. ⌜ now (out .exit) ≡ laid diagWidth (diagnostics (namesBy found (tables (now (sb .entry)) (now (se .entry)) (now (lb .entry)) (now (le .entry)) (bibliographyOf tags (now (bb .entry)) (now (be .entry))))) (now (buf .entry)) start end) (now (out .entry)) ⌝ }
+    ensures count { λ r.
+        let names = lentNames (now (sb .entry)) (now (se .entry)) (now (lb .entry)) (now (le .entry)) tags (now (bb .entry)) (now (be .entry)) in
+        ⌜ r ≡ length (diagnostics names (now (buf .entry)) start end) ⌝ }
+    ensures left { λ r.
+        let names = lentNames (now (sb .entry)) (now (se .entry)) (now (lb .entry)) (now (le .entry)) tags (now (bb .entry)) (now (be .entry)) in
+        ⌜ now (out .exit) ≡ laid diagWidth (diagnostics names (now (buf .entry)) start end) (now (out .entry)) ⌝ }
 {
     let mut st = ParserState::new(start, end);
     let mut note = Note::nothing();
@@ -89,7 +93,9 @@ fn check_tables(
     bb: &[u8],
     be: &[u32],
 ) -> Checked
-    ensures { λ r. ⌜ checkedAnswer r ≡ tablesRefusal (tables (now (sb .entry)) (now (se .entry)) (now (lb .entry)) (now (le .entry)) (bibliographyOf tags (now (bb .entry)) (now (be .entry)))) ⌝ }
+    ensures { λ r.
+        let t = lentTables (now (sb .entry)) (now (se .entry)) (now (lb .entry)) (now (le .entry)) tags (now (bb .entry)) (now (be .entry)) in
+        ⌜ checkedAnswer r ≡ tablesRefusal t ⌝ }
 {
     if let Checked::Refused(why) = check_table(1, sb, se) {
         return Checked::Refused(why);
@@ -117,8 +123,12 @@ pub(crate) fn check(
     be: &[u32],
     out: &mut [u32],
 ) -> Filled
-    ensures answer { λ r. ⌜ filledAnswer r ≡ checkAnswer (now (buf .entry)) start end (tables (now (sb .entry)) (now (se .entry)) (now (lb .entry)) (now (le .entry)) (bibliographyOf tags (now (bb .entry)) (now (be .entry)))) (length (now (out .entry))) ⌝ }
-    ensures left { λ r. ⌜ now (out .exit) ≡ checkLeft (now (buf .entry)) start end (tables (now (sb .entry)) (now (se .entry)) (now (lb .entry)) (now (le .entry)) (bibliographyOf tags (now (bb .entry)) (now (be .entry)))) (now (out .entry)) ⌝ }
+    ensures answer { λ r.
+        let t = lentTables (now (sb .entry)) (now (se .entry)) (now (lb .entry)) (now (le .entry)) tags (now (bb .entry)) (now (be .entry)) in
+        ⌜ filledAnswer r ≡ checkAnswer (now (buf .entry)) start end t (length (now (out .entry))) ⌝ }
+    ensures left { λ r.
+        let t = lentTables (now (sb .entry)) (now (se .entry)) (now (lb .entry)) (now (le .entry)) tags (now (bb .entry)) (now (be .entry)) in
+        ⌜ now (out .exit) ≡ checkLeft (now (buf .entry)) start end t (now (out .entry)) ⌝ }
 {
     if let Checked::Refused(why) = check_span(buf.len(), start, end) {
         return Filled::Refused(why);

@@ -1,5 +1,10 @@
 // The diagnostics of one event.
 use crate::TagLookup;
+use crate::kinds::BIB_ESCAPE;
+use crate::kinds::EMPTY_LABEL;
+use crate::kinds::UNDEFINED_BIB_TAG;
+use crate::kinds::UNDEFINED_TOKEN;
+use crate::kinds::UNKNOWN_LABEL;
 use crate::laying::lay_after;
 use crate::laying::lay_before;
 use crate::laying::lay_if;
@@ -18,9 +23,10 @@ ghost use Rattle.records.specs.Answer.{longest};
 ghost use Rattle.records.specs.Records.{laid, wroteOf};
 ghost use Rattle.name_table.specs.Spelling.{spelled};
 ghost use Rattle.comment_parser.specs.Item.{placedOf, Within};
-ghost use Rattle.verify_markup.specs.Diag.{diagWidth, InBuf};
-ghost use Rattle.verify_markup.specs.Items.{Tags, noTag, tokenDiags, tildeDiags, linkDiags, nameDiags, labelDiags, tagMarks, tagDiags, itemDiags};
-ghost use Rattle.verify_markup.specs.Check.{found, tagsOf, bibliographyOf, tables, namesBy};
+ghost use Rattle.verify_markup.specs.Diag.{diagWidth};
+ghost use Rattle.verify_markup.specs.Items.{noTag, tokenDiags, tildeDiags, linkDiags, nameDiags, labelDiags, bibEscapes, tagDiags, itemDiags};
+ghost use Rattle.verify_markup.specs.Lent.{found, lentTags, lentNames};
+ghost use Rattle.verify_markup.specs.Bounds.{InBuf};
 
 // The search does not find the name that the text spells.
 fn lacks(bytes: &[u8], ends: &[u32], how: Spelling, text: &[u8]) -> bool
@@ -40,8 +46,12 @@ fn lay_token(
     room: &mut [u32],
 ) -> Wrote
     requires { ⌜ InBuf (now buf) start end ⌝ }
-    ensures wrote { λ r. ⌜ r ≡ wroteOf diagWidth (tokenDiags (now (buf .entry)) (found (now (bytes .entry)) (now (ends .entry))) start end) (length (now (room .entry))) ⌝ }
-    ensures left { λ r. ⌜ now (room .exit) ≡ laid diagWidth (tokenDiags (now (buf .entry)) (found (now (bytes .entry)) (now (ends .entry))) start end) (now (room .entry)) ⌝ }
+    ensures wrote { λ r.
+        let known = found (now (bytes .entry)) (now (ends .entry)) in
+        ⌜ r ≡ wroteOf diagWidth (tokenDiags (now (buf .entry)) known start end) (length (now (room .entry))) ⌝ }
+    ensures left { λ r.
+        let known = found (now (bytes .entry)) (now (ends .entry)) in
+        ⌜ now (room .exit) ≡ laid diagWidth (tokenDiags (now (buf .entry)) known start end) (now (room .entry)) ⌝ }
 {
     let unknown = lacks(
         bytes,
@@ -49,7 +59,7 @@ fn lay_token(
         Spelling::Escaped(Escape::Math),
         &buf[start..end],
     );
-    lay_if(unknown, buf, 4, start, end, 0, room)
+    lay_if(unknown, buf, UNDEFINED_TOKEN, start, end, 0, room)
 }
 
 // The tilde of a Label or a Url.
@@ -93,11 +103,15 @@ fn lay_name(
     room: &mut [u32],
 ) -> Wrote
     requires { ⌜ (i ≤ longest) × InBuf (now buf) start end ⌝ }
-    ensures wrote { λ r. ⌜ r ≡ wroteOf diagWidth (nameDiags (now (buf .entry)) (found (now (bytes .entry)) (now (ends .entry))) i start end) (length (now (room .entry))) ⌝ }
-    ensures left { λ r. ⌜ now (room .exit) ≡ laid diagWidth (nameDiags (now (buf .entry)) (found (now (bytes .entry)) (now (ends .entry))) i start end) (now (room .entry)) ⌝ }
+    ensures wrote { λ r.
+        let known = found (now (bytes .entry)) (now (ends .entry)) in
+        ⌜ r ≡ wroteOf diagWidth (nameDiags (now (buf .entry)) known i start end) (length (now (room .entry))) ⌝ }
+    ensures left { λ r.
+        let known = found (now (bytes .entry)) (now (ends .entry)) in
+        ⌜ now (room .exit) ≡ laid diagWidth (nameDiags (now (buf .entry)) known i start end) (now (room .entry)) ⌝ }
 {
     if start == end {
-        return lay_if(true, buf, 5, i, 0, 0, room);
+        return lay_if(true, buf, EMPTY_LABEL, i, 0, 0, room);
     }
     let unknown = lacks(
         bytes,
@@ -105,7 +119,7 @@ fn lay_name(
         Spelling::Escaped(Escape::Label),
         &buf[start..end],
     );
-    lay_if(unknown, buf, 6, start, end, 0, room)
+    lay_if(unknown, buf, UNKNOWN_LABEL, start, end, 0, room)
 }
 
 fn lay_label(
@@ -118,8 +132,12 @@ fn lay_label(
     room: &mut [u32],
 ) -> Wrote
     requires { ⌜ (i ≤ longest) × InBuf (now buf) start end ⌝ }
-    ensures wrote { λ r. ⌜ r ≡ wroteOf diagWidth (labelDiags (now (buf .entry)) (found (now (bytes .entry)) (now (ends .entry))) i start end) (length (now (room .entry))) ⌝ }
-    ensures left { λ r. ⌜ now (room .exit) ≡ laid diagWidth (labelDiags (now (buf .entry)) (found (now (bytes .entry)) (now (ends .entry))) i start end) (now (room .entry)) ⌝ }
+    ensures wrote { λ r.
+        let known = found (now (bytes .entry)) (now (ends .entry)) in
+        ⌜ r ≡ wroteOf diagWidth (labelDiags (now (buf .entry)) known i start end) (length (now (room .entry))) ⌝ }
+    ensures left { λ r.
+        let known = found (now (bytes .entry)) (now (ends .entry)) in
+        ⌜ now (room .exit) ≡ laid diagWidth (labelDiags (now (buf .entry)) known i start end) (now (room .entry)) ⌝ }
 {
     let link = lay_link(buf, i, start, end, room);
     let at = link.words;
@@ -131,17 +149,17 @@ fn lay_label(
 }
 
 // 7 at each backtick or `~` of a tag.
-fn lay_tag_marks(buf: &[u8], start: usize, end: usize, room: &mut [u32]) -> Wrote
+fn lay_bib_escapes(buf: &[u8], start: usize, end: usize, room: &mut [u32]) -> Wrote
     requires { ⌜ InBuf (now buf) start end ⌝ }
-    ensures wrote { λ r. ⌜ r ≡ wroteOf diagWidth (tagMarks (now (buf .entry)) start end (end - start) start) (length (now (room .entry))) ⌝ }
-    ensures left { λ r. ⌜ now (room .exit) ≡ laid diagWidth (tagMarks (now (buf .entry)) start end (end - start) start) (now (room .entry)) ⌝ }
+    ensures wrote { λ r. ⌜ r ≡ wroteOf diagWidth (bibEscapes (now (buf .entry)) start end (end - start) start) (length (now (room .entry))) ⌝ }
+    ensures left { λ r. ⌜ now (room .exit) ≡ laid diagWidth (bibEscapes (now (buf .entry)) start end (end - start) start) (now (room .entry)) ⌝ }
 {
     let mut i = start;
     let mut at: usize = 0;
     let mut n: usize = 0;
     while i < end {
-        let mark = byte_at(buf, i, b'`') | byte_at(buf, i, b'~');
-        let wrote = lay_if(mark, buf, 7, i, start, end, &mut room[at..]);
+        let escape = byte_at(buf, i, b'`') | byte_at(buf, i, b'~');
+        let wrote = lay_if(escape, buf, BIB_ESCAPE, i, start, end, &mut room[at..]);
         at += wrote.words;
         n += wrote.count;
         i += 1;
@@ -154,7 +172,7 @@ fn lay_tag_marks(buf: &[u8], start: usize, end: usize, room: &mut [u32]) -> Wrot
 
 // Tags are looked up, as they stand, and this one is not found.
 fn no_tag(tags: TagLookup, bytes: &[u8], ends: &[u32], tag: &[u8]) -> bool
-    ensures { λ r. ⌜ r ≡ noTag (tagsOf found (bibliographyOf tags (now (bytes .entry)) (now (ends .entry)))) (now (tag .entry)) ⌝ }
+    ensures { λ r. ⌜ r ≡ noTag (lentTags tags (now (bytes .entry)) (now (ends .entry))) (now (tag .entry)) ⌝ }
 {
     match tags {
         TagLookup::LookedUp => lacks(bytes, ends, Spelling::Plain, tag),
@@ -172,16 +190,28 @@ fn lay_tag(
     room: &mut [u32],
 ) -> Wrote
     requires { ⌜ InBuf (now buf) start end ⌝ }
-    ensures wrote { λ r. ⌜ r ≡ wroteOf diagWidth (tagDiags (now (buf .entry)) (tagsOf found (bibliographyOf tags (now (bytes .entry)) (now (ends .entry)))) start end) (length (now (room .entry))) ⌝ }
-    ensures left { λ r. ⌜ now (room .exit) ≡ laid diagWidth (tagDiags (now (buf .entry)) (tagsOf found (bibliographyOf tags (now (bytes .entry)) (now (ends .entry)))) start end) (now (room .entry)) ⌝ }
+    ensures wrote { λ r.
+        let known = lentTags tags (now (bytes .entry)) (now (ends .entry)) in
+        ⌜ r ≡ wroteOf diagWidth (tagDiags (now (buf .entry)) known start end) (length (now (room .entry))) ⌝ }
+    ensures left { λ r.
+        let known = lentTags tags (now (bytes .entry)) (now (ends .entry)) in
+        ⌜ now (room .exit) ≡ laid diagWidth (tagDiags (now (buf .entry)) known start end) (now (room .entry)) ⌝ }
 {
-    let marks = lay_tag_marks(buf, start, end, room);
-    let at = marks.words;
+    let escapes = lay_bib_escapes(buf, start, end, room);
+    let at = escapes.words;
     let unknown = no_tag(tags, bytes, ends, &buf[start..end]);
-    let tag = lay_if(unknown, buf, 8, start, end, 0, &mut room[at..]);
+    let tag = lay_if(
+        unknown,
+        buf,
+        UNDEFINED_BIB_TAG,
+        start,
+        end,
+        0,
+        &mut room[at..],
+    );
     Wrote {
         words: at + tag.words,
-        count: marks.count + tag.count,
+        count: escapes.count + tag.count,
     }
 }
 
@@ -200,8 +230,12 @@ pub(crate) fn lay_item(
     room: &mut [u32],
 ) -> Wrote
     requires { ⌜ (length (now buf) ≤ longest) × Within 0 (length (now buf)) (placedOf item) ⌝ }
-    ensures wrote { λ r. ⌜ r ≡ wroteOf diagWidth (itemDiags (now (buf .entry)) (namesBy found (tables (now (sb .entry)) (now (se .entry)) (now (lb .entry)) (now (le .entry)) (bibliographyOf tags (now (bb .entry)) (now (be .entry))))) html item) (length (now (room .entry))) ⌝ }
-    ensures left { λ r. ⌜ now (room .exit) ≡ laid diagWidth (itemDiags (now (buf .entry)) (namesBy found (tables (now (sb .entry)) (now (se .entry)) (now (lb .entry)) (now (le .entry)) (bibliographyOf tags (now (bb .entry)) (now (be .entry))))) html item) (now (room .entry)) ⌝ }
+    ensures wrote { λ r.
+        let names = lentNames (now (sb .entry)) (now (se .entry)) (now (lb .entry)) (now (le .entry)) tags (now (bb .entry)) (now (be .entry)) in
+        ⌜ r ≡ wroteOf diagWidth (itemDiags (now (buf .entry)) names html item) (length (now (room .entry))) ⌝ }
+    ensures left { λ r.
+        let names = lentNames (now (sb .entry)) (now (se .entry)) (now (lb .entry)) (now (le .entry)) tags (now (bb .entry)) (now (be .entry)) in
+        ⌜ now (room .exit) ≡ laid diagWidth (itemDiags (now (buf .entry)) names html item) (now (room .entry)) ⌝ }
 {
     match item {
         CommentItem::Text(s) => lay_written(Escape::Text { html }, buf, s.start, s.end, room),

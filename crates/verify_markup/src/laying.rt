@@ -1,7 +1,8 @@
 // A diagnostic's record, laid at the front of a room; and the two neighbours of a mark.
+use crate::kinds::MARKUP_NEEDS_WHITESPACE;
 use byte_rules::is_blank;
 use records::Wrote;
-use records::lay4;
+use records::lay;
 ghost use mathlib.Core.Path.{_≡_};
 ghost use Prim.Native.Nat.{_≤_};
 ghost use lib.ListN.{length};
@@ -24,7 +25,7 @@ pub(crate) fn lay_if(
     ensures left { λ r. ⌜ now (room .exit) ≡ laid diagWidth (when test (diag (now (buf .entry)) kind a b c)) (now (room .entry)) ⌝ }
 {
     if test {
-        lay4(room, kind, a as u32, b as u32, c as u32)
+        lay(room, &[kind, a as u32, b as u32, c as u32])
     } else {
         Wrote { words: 0, count: 0 }
     }
@@ -58,7 +59,7 @@ pub(crate) fn lay_before(buf: &[u8], i: usize, room: &mut [u32]) -> Wrote
     ensures left { λ r. ⌜ now (room .exit) ≡ laid diagWidth (spaceBefore (now (buf .entry)) i) (now (room .entry)) ⌝ }
 {
     let before = nonblank_before(buf, i);
-    lay_if(before, buf, 1, i, 0, 0, room)
+    lay_if(before, buf, MARKUP_NEEDS_WHITESPACE, i, 0, 0, room)
 }
 
 // 1 for the byte after it.
@@ -68,5 +69,5 @@ pub(crate) fn lay_after(buf: &[u8], i: usize, room: &mut [u32]) -> Wrote
     ensures left { λ r. ⌜ now (room .exit) ≡ laid diagWidth (spaceAfter (now (buf .entry)) i) (now (room .entry)) ⌝ }
 {
     let after = nonblank_at(buf, i + 1);
-    lay_if(after, buf, 1, i, 0, 0, room)
+    lay_if(after, buf, MARKUP_NEEDS_WHITESPACE, i, 0, 0, room)
 }

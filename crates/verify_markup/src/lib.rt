@@ -1,6 +1,7 @@
 // The comment check: diagnostics of a comment's markup, against lent tables of symbols, labels and, or not, a bibliography.
 mod driver;
 mod items;
+mod kinds;
 mod laying;
 mod opened;
 mod texts;
@@ -25,7 +26,8 @@ pub enum TagLookup {
     NotLookedUp,
 }
 
-// The diagnostics of the span, with a bibliography: its bytes and ends are `bb` and `be`, those of the symbols `sb` and `se`, of the labels `lb` and `le`.
+// The diagnostics of the span, with a bibliography.
+// Its bytes and ends are `bb` and `be`, those of the symbols `sb` and `se`, of the labels `lb` and `le`.
 pub fn verify_markup(
     buf: &[u8],
     start: usize,
@@ -38,8 +40,12 @@ pub fn verify_markup(
     be: &[u32],
     out: &mut [u32],
 ) -> Filled
-    ensures answer { λ r. ⌜ filledAnswer r ≡ checkAnswer (now (buf .entry)) start end (tables (now (sb .entry)) (now (se .entry)) (now (lb .entry)) (now (le .entry)) (lent (table (now (bb .entry)) (now (be .entry))))) (length (now (out .entry))) ⌝ }
-    ensures left { λ r. ⌜ now (out .exit) ≡ checkLeft (now (buf .entry)) start end (tables (now (sb .entry)) (now (se .entry)) (now (lb .entry)) (now (le .entry)) (lent (table (now (bb .entry)) (now (be .entry))))) (now (out .entry)) ⌝ }
+    ensures answer { λ r.
+        let t = tables (now (sb .entry)) (now (se .entry)) (now (lb .entry)) (now (le .entry)) (lent (table (now (bb .entry)) (now (be .entry)))) in
+        ⌜ filledAnswer r ≡ checkAnswer (now (buf .entry)) start end t (length (now (out .entry))) ⌝ }
+    ensures left { λ r.
+        let t = tables (now (sb .entry)) (now (se .entry)) (now (lb .entry)) (now (le .entry)) (lent (table (now (bb .entry)) (now (be .entry)))) in
+        ⌜ now (out .exit) ≡ checkLeft (now (buf .entry)) start end t (now (out .entry)) ⌝ }
 {
     check(
         buf,
@@ -67,8 +73,12 @@ pub fn verify_markup_no_tags(
     le: &[u32],
     out: &mut [u32],
 ) -> Filled
-    ensures answer { λ r. ⌜ filledAnswer r ≡ checkAnswer (now (buf .entry)) start end (tables (now (sb .entry)) (now (se .entry)) (now (lb .entry)) (now (le .entry)) notLent) (length (now (out .entry))) ⌝ }
-    ensures left { λ r. ⌜ now (out .exit) ≡ checkLeft (now (buf .entry)) start end (tables (now (sb .entry)) (now (se .entry)) (now (lb .entry)) (now (le .entry)) notLent) (now (out .entry)) ⌝ }
+    ensures answer { λ r.
+        let t = tables (now (sb .entry)) (now (se .entry)) (now (lb .entry)) (now (le .entry)) notLent in
+        ⌜ filledAnswer r ≡ checkAnswer (now (buf .entry)) start end t (length (now (out .entry))) ⌝ }
+    ensures left { λ r.
+        let t = tables (now (sb .entry)) (now (se .entry)) (now (lb .entry)) (now (le .entry)) notLent in
+        ⌜ now (out .exit) ≡ checkLeft (now (buf .entry)) start end t (now (out .entry)) ⌝ }
 {
     check(
         buf,

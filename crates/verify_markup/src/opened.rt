@@ -1,5 +1,7 @@
 // Where math and HTML were opened, along the events.
 use crate::Modes;
+use crate::kinds::UNCLOSED_HTML;
+use crate::kinds::UNCLOSED_MATH_MARKUP;
 use crate::laying::lay_if;
 use basics::Place;
 use comment_parser::CommentItem;
@@ -9,8 +11,9 @@ ghost use Prim.Native.Nat.{_≤_};
 ghost use lib.ListN.{length};
 ghost use Rattle.records.specs.Answer.{longest};
 ghost use Rattle.records.specs.Records.{laid, wroteOf};
-ghost use Rattle.verify_markup.specs.Diag.{diagWidth};
-ghost use Rattle.verify_markup.specs.List.{isOpen, modesAfter, Opened, unclosed, lastDiags};
+ghost use Rattle.verify_markup.specs.Diag.{diagWidth, diag};
+ghost use Rattle.verify_markup.specs.List.{isOpen, modesAfter, unclosed, lastDiags};
+ghost use Rattle.verify_markup.specs.Bounds.{Opened};
 
 impl Modes {
     pub(crate) fn in_html(self) -> bool
@@ -53,8 +56,8 @@ impl Modes {
 // A mode that is open at the end of the span.
 fn lay_unclosed(buf: &[u8], kind: u32, opened: Place, end: usize, room: &mut [u32]) -> Wrote
     requires { ⌜ Opened opened × (end ≤ longest) ⌝ }
-    ensures wrote { λ r. ⌜ r ≡ wroteOf diagWidth (unclosed (now (buf .entry)) end kind opened) (length (now (room .entry))) ⌝ }
-    ensures left { λ r. ⌜ now (room .exit) ≡ laid diagWidth (unclosed (now (buf .entry)) end kind opened) (now (room .entry)) ⌝ }
+    ensures wrote { λ r. ⌜ r ≡ wroteOf diagWidth (unclosed (λ i e. diag (now (buf .entry)) kind i e 0) end opened) (length (now (room .entry))) ⌝ }
+    ensures left { λ r. ⌜ now (room .exit) ≡ laid diagWidth (unclosed (λ i e. diag (now (buf .entry)) kind i e 0) end opened) (now (room .entry)) ⌝ }
 {
     match opened {
         Place::At(i) => lay_if(true, buf, kind, i, end, 0, room),
@@ -69,10 +72,10 @@ pub(crate) fn lay_last(buf: &[u8], modes: Modes, end: usize, room: &mut [u32]) -
     ensures left { λ r. ⌜ now (room .exit) ≡ laid diagWidth (lastDiags (now (buf .entry)) end modes) (now (room .entry)) ⌝ }
 {
     let opened = modes.math;
-    let math = lay_unclosed(buf, 9, opened, end, room);
+    let math = lay_unclosed(buf, UNCLOSED_MATH_MARKUP, opened, end, room);
     let at = math.words;
     let opened = modes.html;
-    let html = lay_unclosed(buf, 10, opened, end, &mut room[at..]);
+    let html = lay_unclosed(buf, UNCLOSED_HTML, opened, end, &mut room[at..]);
     Wrote {
         words: at + html.words,
         count: math.count + html.count,

@@ -1,4 +1,6 @@
 // The diagnostics of a text's or a label's span: lone escapes, and an HTML mark.
+use crate::kinds::UNINTERPRETED_ESCAPE;
+use crate::kinds::UNINTERPRETED_HTML;
 use crate::laying::lay_if;
 use basics::Span;
 use byte_rules::names::upper;
@@ -11,7 +13,8 @@ ghost use mathlib.Core.Path.{_≡_};
 ghost use Prim.Native.Nat.{_-_, _≤_};
 ghost use lib.ListN.{length};
 ghost use Rattle.records.specs.Records.{laid, wroteOf};
-ghost use Rattle.verify_markup.specs.Diag.{diagWidth, InBuf};
+ghost use Rattle.verify_markup.specs.Diag.{diagWidth};
+ghost use Rattle.verify_markup.specs.Bounds.{InBuf};
 ghost use Rattle.verify_markup.specs.Texts.{isReported, foldedAt, htmlLen, htmlFrom, loneAt, loneFrom, htmlIn, written};
 
 // An escape byte that is reported: each but a Text's `[`.
@@ -49,7 +52,7 @@ fn lay_lone(kind: Escape, buf: &[u8], start: usize, end: usize, room: &mut [u32]
     let mut n: usize = 0;
     while i < end {
         let lone = lone_at(kind, buf, i);
-        let wrote = lay_if(lone, buf, 2, i, 0, 0, &mut room[at..]);
+        let wrote = lay_if(lone, buf, UNINTERPRETED_ESCAPE, i, 0, 0, &mut room[at..]);
         at += wrote.words;
         n += wrote.count;
         let on = i + unescape_step(kind, buf, i);
@@ -122,7 +125,7 @@ fn lay_html(buf: &[u8], start: usize, end: usize, room: &mut [u32]) -> Wrote
     let mark = first_html(&buf[..end], start);
     let a = mark.start;
     let e = mark.end;
-    lay_if(a < e, buf, 3, a, e, 0, room)
+    lay_if(a < e, buf, UNINTERPRETED_HTML, a, e, 0, room)
 }
 
 // What the span of a text or a label gives.

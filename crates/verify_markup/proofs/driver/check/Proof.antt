@@ -12,7 +12,8 @@ use Rattle.name_table.specs.Search.{isIn}
 use Rattle.verify_markup.specs.Diag.{diagWidth}
 use Rattle.verify_markup.specs.Items.{Names}
 use Rattle.verify_markup.specs.List.{diagnostics}
-use Rattle.verify_markup.specs.Check.{Tables, tablesRefusal, checkRefusal, found, bibliographyOf, tables, namesBy}
+use Rattle.verify_markup.specs.Check.{Tables, tablesRefusal, checkRefusal, namesBy}
+use Rattle.verify_markup.specs.Lent.{found, lentTables}
 use Rattle.verify_markup.proofs.CheckLaws.{refused-span, refused-tables, names-good, listed-done, listed-short}
 use Rattle.verify_markup.proofs.driver.check.Statement.{statement}
 use Rattle.verify_markup.proofs.driver.check.Tie as tie
@@ -53,24 +54,24 @@ enum-told-2 c = search needs
 
 -- no table is refused
 module _ (c : tie.After-enum-told2) where
-  abbrev lentTables : Tables
-  lentTables = let a = entry (c .before .before .before) .args in tables (a .sb .now) (a .se .now) (a .lb .now) (a .le .now) (bibliographyOf (a .tags) (a .bb .now) (a .be .now))
+  abbrev lent : Tables
+  lent = let a = entry (c .before .before .before) .args in lentTables (a .sb .now) (a .se .now) (a .lb .now) (a .le .now) (a .tags) (a .bb .now) (a .be .now)
 
-  tables-good : none ≡ tablesRefusal lentTables
+  tables-good : none ≡ tablesRefusal lent
   tables-good = rw (c .enum-told2 .given .1) at (c .before .before .check-tables .ensures)
 
-  good : none ≡ checkRefusal (entry (c .before .before .before) .args .buf .now) (entry (c .before .before .before) .args .start) (entry (c .before .before .before) .args .end) lentTables
+  good : none ≡ checkRefusal (entry (c .before .before .before) .args .buf .now) (entry (c .before .before .before) .args .start) (entry (c .before .before .before) .args .end) lent
   good = tables-good ∙ refused-tables _ _ _ _ (span-good (c .before .before .before))
 
   all-same : let a = entry (c .before .before .before) .args in
-      diagnostics (namesBy found lentTables) (a .buf .now) (a .start) (a .end) ≡ diagnostics (namesBy isIn lentTables) (a .buf .now) (a .start) (a .end)
-  all-same = ap (λ (n : Names). let a = entry (c .before .before .before) .args in diagnostics n (a .buf .now) (a .start) (a .end)) (names-good lentTables tables-good)
+      diagnostics (namesBy found lent) (a .buf .now) (a .start) (a .end) ≡ diagnostics (namesBy isIn lent) (a .buf .now) (a .start) (a .end)
+  all-same = ap (λ (n : Names). let a = entry (c .before .before .before) .args in diagnostics n (a .buf .now) (a .start) (a .end)) (names-good lent tables-good)
 
 lay-all-requires : tie.Need-lay-all-requires
 lay-all-requires c κs =
     let e = c .before .before .before .before in
     let s = span-accepted _ _ _ (sym (span-good e)) in
-    record { order = s .1; inside = s .2; short = s .0 }
+    record { order = omega (arith, s); inside = omega (arith, s); short = omega (arith, s) }
 
 same-length : tie.Need-same-length
 same-length c = search needs

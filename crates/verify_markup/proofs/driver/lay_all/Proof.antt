@@ -9,15 +9,15 @@ use Rattle.comment_parser.specs.Events.{left}
 use Rattle.comment_parser.specs.declared.ParserState.{ParserState}
 use Rattle.comment_parser.proofs.Along.{along-end, along-less}
 use Rattle.verify_markup.specs.List.{modesAfter}
-use Rattle.verify_markup.specs.Check.{found, bibliographyOf, tables, namesBy}
-use Rattle.verify_markup.proofs.DiagLaws.{wrote-count}
+use Rattle.verify_markup.specs.Lent.{lentNames}
+use Rattle.verify_markup.proofs.DiagLaws.{did-count}
 use Rattle.verify_markup.proofs.ListLaws.{Going, few-last, going-starts, going-on, going-item, going-ends, last-laid}
 use Rattle.verify_markup.proofs.driver.lay_all.Statement.{statement}
 use Rattle.verify_markup.proofs.driver.lay_all.Tie as tie
 
 abbrev Inv-loop : tie.InvT-loop
 Inv-loop buf start end sb se lb le tags bb be out₀ st₀ note₀ modes₀ at₀ n₀ out st note modes at n =
-    Going (namesBy found (tables sb se lb le (bibliographyOf tags bb be))) buf start end out₀ out st note modes at n
+    Going (lentNames sb se lb le tags bb be) buf start end out₀ out st note modes at n
 
 abbrev μ-loop : tie.MeasureT-loop
 μ-loop buf start end sb se lb le tags bb be out₀ st₀ note₀ modes₀ at₀ n₀ out st note modes at n = left st
@@ -78,13 +78,13 @@ module _ (c : tie.After-lay-item Inv-loop μ-loop) where
       let a = call .before .before .before .before .before .before .before .before .before .before .before .before .args in
       let w = c .lay-item .result in
       (l .at + w .words ≤ length (l .out))
-      × Going (namesBy found (tables (a .sb .now) (a .se .now) (a .lb .now) (a .le .now) (bibliographyOf (a .tags) (a .bb .now) (a .be .now)))) (a .buf .now) (a .start) (a .end) (a .out .now)
+      × Going (lentNames (a .sb .now) (a .se .now) (a .lb .now) (a .le .now) (a .tags) (a .bb .now) (a .be .now)) (a .buf .now) (a .start) (a .end) (a .out .now)
       (back (l .at) (l .out) (c .lay-item .last .1 .1 .1 .1 .1 .1 .1 .1 .1 .1 .0)) after (call .next-noted .result .note) (modesAfter (l .modes) (event .next .given .0 .1 .0)) (l .at + w .words) (l .n + w .count)
 
   turned : Turned
   turned =
       going-on (call .before .loop .inv) (call .next-noted .result) (call .next-noted .ensures) (event .next .given .0 .1 .0) after (event .next .given .1)
-      (c .before .before .in-html .result) (c .before .before .in-html .ensures) (c .lay-item .result) _ (c .lay-item .ensures .0) (c .lay-item .ensures .1)
+      (c .before .before .in-html .result) (c .before .before .in-html .ensures) (c .lay-item .result) _ (c .lay-item .ensures)
 
 add-at : tie.Need-add-at Inv-loop μ-loop
 add-at c =
@@ -130,7 +130,7 @@ add-result c =
     let z = c .before .before .before in
     let l = z .before .before .before .before .before in
     let a = l .before .before .before .before .before .before .before .before .before .before .before .args in
-    omega (arith, l .loop .inv .few, wrote-count (few-last (a .buf .now) (a .end) (l .loop .modes)) _ _ (z .lay-last .result) (z .lay-last .ensures .1) (z .lay-last .ensures .0))
+    omega (arith, l .loop .inv .few, did-count (few-last (a .buf .now) (a .end) (l .loop .modes)) _ _ (z .lay-last .result) (z .lay-last .ensures))
 
 same-length : tie.Need-same-length Inv-loop μ-loop
 same-length c = search needs
@@ -142,7 +142,7 @@ returns c =
     let k = m .before .before in
     let g = k .before .loop .inv in
     let a = k .before .before .before .before .before .before .before .before .before .before .before .before .args in
-    last-laid (going-ends g (along-end (g .along) (k .next-noted .ensures) (m .match .keys2))) (few-last (a .buf .now) (a .end) (k .before .loop .modes)) (z .lay-last .result) _ (z .lay-last .ensures .0) (z .lay-last .ensures .1)
+    last-laid (going-ends g (along-end (g .along) (k .next-noted .ensures) (m .match .keys2))) (few-last (a .buf .now) (a .end) (k .before .loop .modes)) (z .lay-last .result) _ (z .lay-last .ensures)
 
 pub lay-all-spec : {M : Type 1} → statement M
 lay-all-spec =

@@ -4,7 +4,7 @@ use borrow.Author.Needs.{needs}
 use mathlib.Core.Path.{refl}
 use native.Mathlib.Omega.{arith}
 use Rattle.records.specs.Records.{laid, used}
-use Rattle.verify_markup.specs.Check.{found, bibliographyOf, tables, namesBy}
+use Rattle.verify_markup.specs.Lent.{lentNames}
 use Rattle.verify_markup.proofs.ListLaws.{item-silent}
 use Rattle.verify_markup.proofs.items.lay_item.Statement.{statement}
 use Rattle.verify_markup.proofs.items.lay_item.Tie as tie
@@ -97,7 +97,7 @@ returns-8 : tie.Need-returns-8
 unfolding laid used
 returns-8 c =
     let a = c .before .before .before .before .before .before .before .before .before .args in
-    let n = namesBy found (tables (a .sb .now) (a .se .now) (a .lb .now) (a .le .now) (bibliographyOf (a .tags) (a .bb .now) (a .be .now))) in
+    let n = lentNames (a .sb .now) (a .se .now) (a .lb .now) (a .le .now) (a .tags) (a .bb .now) (a .be .now) in
     rw (item-silent (a .buf .now) n (a .html) (a .item) (c .match .keys8)) (refl, refl)
 
 pub lay-item-spec : {M : Type 1} → statement M

@@ -2,9 +2,9 @@
 -- Assumes nothing.
 use borrow.Author.Needs.{needs}
 use native.Mathlib.Omega.{arith}
-use Rattle.verify_markup.proofs.DiagLaws.{wrote-inside, pair-wrote, pair-laid, pair-words, pair-count}
+use Rattle.verify_markup.proofs.DiagLaws.{did-inside, pair-did, pair-words, pair-count}
 use Rattle.verify_markup.specs.Items.{labelDiags}
-use Rattle.verify_markup.specs.Check.{found}
+use Rattle.verify_markup.specs.Lent.{found}
 use Rattle.verify_markup.proofs.ItemLaws.{few-link, few-name}
 use Rattle.verify_markup.proofs.items.lay_label.Statement.{statement}
 use Rattle.verify_markup.proofs.items.lay_label.Tie as tie
@@ -13,13 +13,22 @@ lay-link-requires : tie.Need-lay-link-requires
 lay-link-requires c κs = search needs
 
 mul-lay-name : tie.Need-mul-lay-name
-mul-lay-name c = let w = c .before .before in omega (arith, wrote-inside (few-link (w .before .before .before .before .before .before .args .buf .now) (w .before .before .before .before .before .before .args .i) (w .before .before .before .before .before .before .args .start) (w .before .before .before .before .before .before .args .end)) _ _ (w .lay-link .result) (w .lay-link .ensures .1) (w .lay-link .ensures .0), w .before .before .before .before .before .before .good)
+mul-lay-name c =
+    let w = c .before .before in
+    let a = w .before .before .before .before .before .before .args in
+    omega (arith, did-inside (few-link (a .buf .now) (a .i) (a .start) (a .end)) _ _ _ (w .lay-link .ensures), w .before .before .before .before .before .before .good)
 
 sub-lay-name : tie.Need-sub-lay-name
-sub-lay-name c = let w = c .before .before in wrote-inside (few-link (w .before .before .before .before .before .before .args .buf .now) (w .before .before .before .before .before .before .args .i) (w .before .before .before .before .before .before .args .start) (w .before .before .before .before .before .before .args .end)) _ _ (w .lay-link .result) (w .lay-link .ensures .1) (w .lay-link .ensures .0) .0
+sub-lay-name c =
+    let w = c .before .before in
+    let a = w .before .before .before .before .before .before .args in
+    did-inside (few-link (a .buf .now) (a .i) (a .start) (a .end)) _ _ _ (w .lay-link .ensures) .0
 
 part-lay-name-start : tie.Need-part-lay-name-start
-part-lay-name-start c = let w = c .before .before in wrote-inside (few-link (w .before .before .before .before .before .before .args .buf .now) (w .before .before .before .before .before .before .args .i) (w .before .before .before .before .before .before .args .start) (w .before .before .before .before .before .before .args .end)) _ _ (w .lay-link .result) (w .lay-link .ensures .1) (w .lay-link .ensures .0) .0
+part-lay-name-start c =
+    let w = c .before .before in
+    let a = w .before .before .before .before .before .before .args in
+    did-inside (few-link (a .buf .now) (a .i) (a .start) (a .end)) _ _ _ (w .lay-link .ensures) .0
 
 part-lay-name-end : tie.Need-part-lay-name-end
 part-lay-name-end c = search needs
@@ -31,13 +40,15 @@ add-t13 : tie.Need-add-t13
 add-t13 c =
     let z = c .before .before .before in
     let w = z .before .before .before .before in
-    omega (arith, pair-words (few-link (w .before .before .before .before .before .before .args .buf .now) (w .before .before .before .before .before .before .args .i) (w .before .before .before .before .before .before .args .start) (w .before .before .before .before .before .before .args .end)) (few-name (w .before .before .before .before .before .before .args .buf .now) (w .before .before .before .before .before .before .args .start) (w .before .before .before .before .before .before .args .end) (found (w .before .before .before .before .before .before .args .bytes .now) (w .before .before .before .before .before .before .args .ends .now)) (w .before .before .before .before .before .before .args .i)) _ _ _ (w .lay-link .result) (z .lay-name .result) (w .lay-link .ensures .1) (w .lay-link .ensures .0) (z .lay-name .ensures .1) (z .lay-name .ensures .0), w .before .before .before .before .before .before .good)
+    let a = w .before .before .before .before .before .before .args in
+    omega (arith, pair-words (few-link (a .buf .now) (a .i) (a .start) (a .end)) (few-name (a .buf .now) (a .start) (a .end) (found (a .bytes .now) (a .ends .now)) (a .i)) _ _ _ _ _ (w .lay-link .ensures) (z .lay-name .ensures), w .before .before .before .before .before .before .good)
 
 add-t15 : tie.Need-add-t15
 add-t15 c =
     let z = c .before .before .before .before .before in
     let w = z .before .before .before .before in
-    omega (arith, pair-count (few-link (w .before .before .before .before .before .before .args .buf .now) (w .before .before .before .before .before .before .args .i) (w .before .before .before .before .before .before .args .start) (w .before .before .before .before .before .before .args .end)) (few-name (w .before .before .before .before .before .before .args .buf .now) (w .before .before .before .before .before .before .args .start) (w .before .before .before .before .before .before .args .end) (found (w .before .before .before .before .before .before .args .bytes .now) (w .before .before .before .before .before .before .args .ends .now)) (w .before .before .before .before .before .before .args .i)) _ _ _ (w .lay-link .result) (z .lay-name .result) (w .lay-link .ensures .1) (w .lay-link .ensures .0) (z .lay-name .ensures .1) (z .lay-name .ensures .0), w .before .before .before .before .before .before .pre .1 .inside, w .before .before .before .before .before .before .pre .1 .short)
+    let a = w .before .before .before .before .before .before .args in
+    omega (arith, pair-count (few-link (a .buf .now) (a .i) (a .start) (a .end)) (few-name (a .buf .now) (a .start) (a .end) (found (a .bytes .now) (a .ends .now)) (a .i)) _ _ _ _ _ (w .lay-link .ensures) (z .lay-name .ensures), w .before .before .before .before .before .before .pre .1 .inside, w .before .before .before .before .before .before .pre .1 .short)
 
 same-length : tie.Need-same-length
 same-length c = search needs
@@ -47,7 +58,8 @@ unfolding labelDiags
 returns c =
     let z = c .before .before .before .before .before in
     let w = z .before .before .before .before in
-    (pair-wrote (few-link (w .before .before .before .before .before .before .args .buf .now) (w .before .before .before .before .before .before .args .i) (w .before .before .before .before .before .before .args .start) (w .before .before .before .before .before .before .args .end)) (few-name (w .before .before .before .before .before .before .args .buf .now) (w .before .before .before .before .before .before .args .start) (w .before .before .before .before .before .before .args .end) (found (w .before .before .before .before .before .before .args .bytes .now) (w .before .before .before .before .before .before .args .ends .now)) (w .before .before .before .before .before .before .args .i)) _ _ _ (w .lay-link .result) (z .lay-name .result) (w .lay-link .ensures .1) (w .lay-link .ensures .0) (z .lay-name .ensures .1) (z .lay-name .ensures .0), pair-laid (few-link (w .before .before .before .before .before .before .args .buf .now) (w .before .before .before .before .before .before .args .i) (w .before .before .before .before .before .before .args .start) (w .before .before .before .before .before .before .args .end)) (few-name (w .before .before .before .before .before .before .args .buf .now) (w .before .before .before .before .before .before .args .start) (w .before .before .before .before .before .before .args .end) (found (w .before .before .before .before .before .before .args .bytes .now) (w .before .before .before .before .before .before .args .ends .now)) (w .before .before .before .before .before .before .args .i)) _ _ _ (w .lay-link .result) (z .lay-name .result) (w .lay-link .ensures .1) (w .lay-link .ensures .0) (z .lay-name .ensures .1) (z .lay-name .ensures .0))
+    let a = w .before .before .before .before .before .before .args in
+    pair-did (few-link (a .buf .now) (a .i) (a .start) (a .end)) (few-name (a .buf .now) (a .start) (a .end) (found (a .bytes .now) (a .ends .now)) (a .i)) _ _ _ _ _ (w .lay-link .ensures) (z .lay-name .ensures)
 
 pub lay-label-spec : {M : Type 1} → statement M
 lay-label-spec =

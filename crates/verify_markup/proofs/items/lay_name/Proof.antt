@@ -1,9 +1,11 @@
 -- `items::lay_name` meets its contract, by whether the label is empty.
 -- Assumes nothing.
 use borrow.Author.Needs.{needs}
-use borrow.Author.Tests.{eq-eqb, ne-eqb}
+use borrow.Author.Tests.{eq-eqb}
 use Rattle.name_table.specs.Spelling.{spelled}
 use Rattle.verify_markup.specs.Items.{nameDiags}
+use Rattle.verify_markup.specs.Lent.{found}
+use Rattle.verify_markup.proofs.ItemLaws.{name-by}
 use Rattle.verify_markup.proofs.items.lay_name.Statement.{statement}
 use Rattle.verify_markup.proofs.items.lay_name.Tie as tie
 
@@ -36,11 +38,12 @@ same-length-2 : tie.Need-same-length-2
 same-length-2 c = search needs
 
 returns-2 : tie.Need-returns-2
-unfolding nameDiags spelled
+unfolding spelled
 returns-2 c =
     let w = c .before .before in
     let l = w .before .before in
-    rw (nameDiags, ne-eqb _ _ (l .before .before .if1 .left), ← l .lacks .ensures) (w .lay-if2 .ensures)
+    let a = l .before .before .before .before .before .before .before .args in
+    rw (name-by (a .buf .now) (a .start) (a .end) (found (a .bytes .now) (a .ends .now)) (a .i) (l .lacks .result) (l .before .before .if1 .left) (l .lacks .ensures)) (w .lay-if2 .ensures)
 
 pub lay-name-spec : {M : Type 1} → statement M
 lay-name-spec =

@@ -2,7 +2,7 @@
 -- Assumes nothing.
 use borrow.Author.Needs.{needs}
 use native.Mathlib.Omega.{arith}
-use Rattle.verify_markup.proofs.DiagLaws.{wrote-inside, pair-wrote, pair-laid, pair-words, pair-count}
+use Rattle.verify_markup.proofs.DiagLaws.{did-inside, pair-did, pair-words, pair-count}
 use Rattle.verify_markup.specs.Items.{tildeDiags}
 use Rattle.verify_markup.proofs.ItemLaws.{few-before, few-after}
 use Rattle.verify_markup.proofs.items.lay_tilde.Statement.{statement}
@@ -12,13 +12,22 @@ lay-before-requires : tie.Need-lay-before-requires
 lay-before-requires c κs = search needs
 
 mul-lay-after : tie.Need-mul-lay-after
-mul-lay-after c = let w = c .before .before in omega (arith, wrote-inside (few-before (w .before .before .before .before .args .buf .now) (w .before .before .before .before .args .i)) _ _ (w .lay-before .result) (w .lay-before .ensures .1) (w .lay-before .ensures .0), w .before .before .before .before .good)
+mul-lay-after c =
+    let w = c .before .before in
+    let a = w .before .before .before .before .args in
+    omega (arith, did-inside (few-before (a .buf .now) (a .i)) _ _ _ (w .lay-before .ensures), w .before .before .before .before .good)
 
 sub-lay-after : tie.Need-sub-lay-after
-sub-lay-after c = let w = c .before .before in wrote-inside (few-before (w .before .before .before .before .args .buf .now) (w .before .before .before .before .args .i)) _ _ (w .lay-before .result) (w .lay-before .ensures .1) (w .lay-before .ensures .0) .0
+sub-lay-after c =
+    let w = c .before .before in
+    let a = w .before .before .before .before .args in
+    did-inside (few-before (a .buf .now) (a .i)) _ _ _ (w .lay-before .ensures) .0
 
 part-lay-after-start : tie.Need-part-lay-after-start
-part-lay-after-start c = let w = c .before .before in wrote-inside (few-before (w .before .before .before .before .args .buf .now) (w .before .before .before .before .args .i)) _ _ (w .lay-before .result) (w .lay-before .ensures .1) (w .lay-before .ensures .0) .0
+part-lay-after-start c =
+    let w = c .before .before in
+    let a = w .before .before .before .before .args in
+    did-inside (few-before (a .buf .now) (a .i)) _ _ _ (w .lay-before .ensures) .0
 
 part-lay-after-end : tie.Need-part-lay-after-end
 part-lay-after-end c = search needs
@@ -30,13 +39,15 @@ add-t9 : tie.Need-add-t9
 add-t9 c =
     let z = c .before .before .before in
     let w = z .before .before .before .before in
-    omega (arith, pair-words (few-before (w .before .before .before .before .args .buf .now) (w .before .before .before .before .args .i)) (few-after (w .before .before .before .before .args .buf .now) (w .before .before .before .before .args .i)) _ _ _ (w .lay-before .result) (z .lay-after .result) (w .lay-before .ensures .1) (w .lay-before .ensures .0) (z .lay-after .ensures .1) (z .lay-after .ensures .0), w .before .before .before .before .good)
+    let a = w .before .before .before .before .args in
+    omega (arith, pair-words (few-before (a .buf .now) (a .i)) (few-after (a .buf .now) (a .i)) _ _ _ _ _ (w .lay-before .ensures) (z .lay-after .ensures), w .before .before .before .before .good)
 
 add-t11 : tie.Need-add-t11
 add-t11 c =
     let z = c .before .before .before .before .before in
     let w = z .before .before .before .before in
-    omega (arith, pair-count (few-before (w .before .before .before .before .args .buf .now) (w .before .before .before .before .args .i)) (few-after (w .before .before .before .before .args .buf .now) (w .before .before .before .before .args .i)) _ _ _ (w .lay-before .result) (z .lay-after .result) (w .lay-before .ensures .1) (w .lay-before .ensures .0) (z .lay-after .ensures .1) (z .lay-after .ensures .0))
+    let a = w .before .before .before .before .args in
+    omega (arith, pair-count (few-before (a .buf .now) (a .i)) (few-after (a .buf .now) (a .i)) _ _ _ _ _ (w .lay-before .ensures) (z .lay-after .ensures))
 
 same-length : tie.Need-same-length
 same-length c = search needs
@@ -46,7 +57,8 @@ unfolding tildeDiags
 returns c =
     let z = c .before .before .before .before .before in
     let w = z .before .before .before .before in
-    (pair-wrote (few-before (w .before .before .before .before .args .buf .now) (w .before .before .before .before .args .i)) (few-after (w .before .before .before .before .args .buf .now) (w .before .before .before .before .args .i)) _ _ _ (w .lay-before .result) (z .lay-after .result) (w .lay-before .ensures .1) (w .lay-before .ensures .0) (z .lay-after .ensures .1) (z .lay-after .ensures .0), pair-laid (few-before (w .before .before .before .before .args .buf .now) (w .before .before .before .before .args .i)) (few-after (w .before .before .before .before .args .buf .now) (w .before .before .before .before .args .i)) _ _ _ (w .lay-before .result) (z .lay-after .result) (w .lay-before .ensures .1) (w .lay-before .ensures .0) (z .lay-after .ensures .1) (z .lay-after .ensures .0))
+    let a = w .before .before .before .before .args in
+    pair-did (few-before (a .buf .now) (a .i)) (few-after (a .buf .now) (a .i)) _ _ _ _ _ (w .lay-before .ensures) (z .lay-after .ensures)
 
 pub lay-tilde-spec : {M : Type 1} → statement M
 lay-tilde-spec =

@@ -2,9 +2,9 @@
 -- Assumes nothing.
 use borrow.Author.Needs.{needs}
 use native.Mathlib.Omega.{arith}
-use Rattle.verify_markup.proofs.DiagLaws.{wrote-inside, pair-wrote, pair-laid, pair-words, pair-count}
+use Rattle.verify_markup.proofs.DiagLaws.{did-inside, pair-did, pair-words, pair-count}
 use Rattle.verify_markup.specs.List.{lastDiags}
-use Rattle.verify_markup.proofs.ListLaws.{few-unclosed}
+use Rattle.verify_markup.proofs.ListLaws.{few-unclosed-math, few-unclosed-html}
 use Rattle.verify_markup.proofs.opened.lay_last.Statement.{statement}
 use Rattle.verify_markup.proofs.opened.lay_last.Tie as tie
 
@@ -12,13 +12,22 @@ lay-unclosed-requires : tie.Need-lay-unclosed-requires
 lay-unclosed-requires c κs = search needs
 
 mul-lay-unclosed : tie.Need-mul-lay-unclosed
-mul-lay-unclosed c = let w = c .before .before in omega (arith, wrote-inside (few-unclosed (w .before .before .before .before .args .buf .now) (w .before .before .before .before .args .end) 9 (w .before .before .before .before .args .modes .math)) _ _ (w .lay-unclosed .result) (w .lay-unclosed .ensures .1) (w .lay-unclosed .ensures .0), w .before .before .before .before .good)
+mul-lay-unclosed c =
+    let w = c .before .before in
+    let a = w .before .before .before .before .args in
+    omega (arith, did-inside (few-unclosed-math (a .buf .now) (a .end) (a .modes .math)) _ _ _ (w .lay-unclosed .ensures), w .before .before .before .before .good)
 
 sub-lay-unclosed : tie.Need-sub-lay-unclosed
-sub-lay-unclosed c = let w = c .before .before in wrote-inside (few-unclosed (w .before .before .before .before .args .buf .now) (w .before .before .before .before .args .end) 9 (w .before .before .before .before .args .modes .math)) _ _ (w .lay-unclosed .result) (w .lay-unclosed .ensures .1) (w .lay-unclosed .ensures .0) .0
+sub-lay-unclosed c =
+    let w = c .before .before in
+    let a = w .before .before .before .before .args in
+    did-inside (few-unclosed-math (a .buf .now) (a .end) (a .modes .math)) _ _ _ (w .lay-unclosed .ensures) .0
 
 part-lay-unclosed-start : tie.Need-part-lay-unclosed-start
-part-lay-unclosed-start c = let w = c .before .before in wrote-inside (few-unclosed (w .before .before .before .before .args .buf .now) (w .before .before .before .before .args .end) 9 (w .before .before .before .before .args .modes .math)) _ _ (w .lay-unclosed .result) (w .lay-unclosed .ensures .1) (w .lay-unclosed .ensures .0) .0
+part-lay-unclosed-start c =
+    let w = c .before .before in
+    let a = w .before .before .before .before .args in
+    did-inside (few-unclosed-math (a .buf .now) (a .end) (a .modes .math)) _ _ _ (w .lay-unclosed .ensures) .0
 
 part-lay-unclosed-end : tie.Need-part-lay-unclosed-end
 part-lay-unclosed-end c = search needs
@@ -30,13 +39,15 @@ add-t12 : tie.Need-add-t12
 add-t12 c =
     let z = c .before .before .before in
     let w = z .before .before .before .before in
-    omega (arith, pair-words (few-unclosed (w .before .before .before .before .args .buf .now) (w .before .before .before .before .args .end) 9 (w .before .before .before .before .args .modes .math)) (few-unclosed (w .before .before .before .before .args .buf .now) (w .before .before .before .before .args .end) 10 (w .before .before .before .before .args .modes .html)) _ _ _ (w .lay-unclosed .result) (z .lay-unclosed2 .result) (w .lay-unclosed .ensures .1) (w .lay-unclosed .ensures .0) (z .lay-unclosed2 .ensures .1) (z .lay-unclosed2 .ensures .0), w .before .before .before .before .good)
+    let a = w .before .before .before .before .args in
+    omega (arith, pair-words (few-unclosed-math (a .buf .now) (a .end) (a .modes .math)) (few-unclosed-html (a .buf .now) (a .end) (a .modes .html)) _ _ _ _ _ (w .lay-unclosed .ensures) (z .lay-unclosed2 .ensures), w .before .before .before .before .good)
 
 add-t14 : tie.Need-add-t14
 add-t14 c =
     let z = c .before .before .before .before .before in
     let w = z .before .before .before .before in
-    omega (arith, pair-count (few-unclosed (w .before .before .before .before .args .buf .now) (w .before .before .before .before .args .end) 9 (w .before .before .before .before .args .modes .math)) (few-unclosed (w .before .before .before .before .args .buf .now) (w .before .before .before .before .args .end) 10 (w .before .before .before .before .args .modes .html)) _ _ _ (w .lay-unclosed .result) (z .lay-unclosed2 .result) (w .lay-unclosed .ensures .1) (w .lay-unclosed .ensures .0) (z .lay-unclosed2 .ensures .1) (z .lay-unclosed2 .ensures .0))
+    let a = w .before .before .before .before .args in
+    omega (arith, pair-count (few-unclosed-math (a .buf .now) (a .end) (a .modes .math)) (few-unclosed-html (a .buf .now) (a .end) (a .modes .html)) _ _ _ _ _ (w .lay-unclosed .ensures) (z .lay-unclosed2 .ensures))
 
 same-length : tie.Need-same-length
 same-length c = search needs
@@ -46,7 +57,8 @@ unfolding lastDiags
 returns c =
     let z = c .before .before .before .before .before in
     let w = z .before .before .before .before in
-    (pair-wrote (few-unclosed (w .before .before .before .before .args .buf .now) (w .before .before .before .before .args .end) 9 (w .before .before .before .before .args .modes .math)) (few-unclosed (w .before .before .before .before .args .buf .now) (w .before .before .before .before .args .end) 10 (w .before .before .before .before .args .modes .html)) _ _ _ (w .lay-unclosed .result) (z .lay-unclosed2 .result) (w .lay-unclosed .ensures .1) (w .lay-unclosed .ensures .0) (z .lay-unclosed2 .ensures .1) (z .lay-unclosed2 .ensures .0), pair-laid (few-unclosed (w .before .before .before .before .args .buf .now) (w .before .before .before .before .args .end) 9 (w .before .before .before .before .args .modes .math)) (few-unclosed (w .before .before .before .before .args .buf .now) (w .before .before .before .before .args .end) 10 (w .before .before .before .before .args .modes .html)) _ _ _ (w .lay-unclosed .result) (z .lay-unclosed2 .result) (w .lay-unclosed .ensures .1) (w .lay-unclosed .ensures .0) (z .lay-unclosed2 .ensures .1) (z .lay-unclosed2 .ensures .0))
+    let a = w .before .before .before .before .args in
+    pair-did (few-unclosed-math (a .buf .now) (a .end) (a .modes .math)) (few-unclosed-html (a .buf .now) (a .end) (a .modes .html)) _ _ _ _ _ (w .lay-unclosed .ensures) (z .lay-unclosed2 .ensures)
 
 pub lay-last-spec : {M : Type 1} → statement M
 lay-last-spec =

@@ -2,7 +2,7 @@
 -- Assumes nothing.
 use borrow.Author.Needs.{needs}
 use Prim.Native.Nat.{ℕ, _+_, _-_, _≤_, _<_}
-use mathlib.Core.Path.{_≡_, sym, ap, _∙_}
+use mathlib.Core.Path.{_≡_, refl, sym, ap, _∙_}
 use mathlib.Core.List.{List, _++_}
 use native.Mathlib.Nat.{le-refl}
 use native.Mathlib.Omega.{arith}
@@ -11,11 +11,11 @@ use lib.Seq.{length-take-le}
 use Rattle.records.proofs.Laying.{Laying, back, laying-starts, all-wrote, all-laid}
 use Rattle.scans.specs.Plain.{plainStep, plainEnd}
 use Rattle.scans.proofs.Laws.{scan-ge}
-use Rattle.verify_markup.specs.Diag.{diagWidth, diag, when}
+use Rattle.verify_markup.specs.Diag.{diagWidth, when, uninterpretedEscape}
 use Rattle.unescape.specs.Unescape.{isEscape, stepAt}
 use Rattle.unescape.proofs.Laws.{step-some, step-within}
 use Rattle.verify_markup.specs.Texts.{loneAt, loneFrom}
-use Rattle.verify_markup.proofs.DiagLaws.{few-when, wrote-count, turn-laid}
+use Rattle.verify_markup.proofs.DiagLaws.{few-when, did-count, turn-laid}
 use Rattle.verify_markup.proofs.TextLaws.{lone-on, lone-ends}
 use Rattle.verify_markup.proofs.PlainTexts.{lone-skip}
 use Rattle.verify_markup.proofs.texts.lay_lone.Statement.{statement}
@@ -91,16 +91,16 @@ module _ (c : tie.After-lay-if Inv-loop μ-loop) where
   abbrev rest : List (List ℕ)
   rest = let a = entry .args in let on = here + stepAt (isEscape (a .kind)) (a .buf .now) here in loneFrom (a .buf .now) (a .kind) (a .end) (a .end - on) on
 
-  to-come : Left (when (loneAt (entry .args .buf .now) (entry .args .kind) here) (diag (entry .args .buf .now) 2 here 0 0) ++ rest)
+  to-come : Left (when (loneAt (entry .args .buf .now) (entry .args .kind) here) (uninterpretedEscape (entry .args .buf .now) here) ++ rest)
   to-come = rw (lone-on (entry .args .buf .now) (entry .args .kind) (entry .args .end) here (c .before .before .before .loop-test .taken)) at (head .loop .inv .1)
 
   turn : (head .loop .at + c .lay-if .result .words ≤ length (head .loop .room))
       × Laying diagWidth (let a = entry .args in loneFrom (a .buf .now) (a .kind) (a .end) (a .end - a .start) (a .start)) rest (entry .args .room .now)
       (back (head .loop .at) (head .loop .room) (c .lay-if .last .1 .1 .1 .1 .1 .1 .0)) (head .loop .at + c .lay-if .result .words) (head .loop .n + c .lay-if .result .count)
-  turn = turn-laid (c .before .before .lone-at .result) _ (c .before .before .lone-at .ensures) (entry .args .buf .now) 2 here 0 0 to-come _ (c .lay-if .result) (c .lay-if .ensures .1) (c .lay-if .ensures .0)
+  turn = turn-laid (c .before .before .lone-at .result) (loneAt (entry .args .buf .now) (entry .args .kind) here) (c .before .before .lone-at .ensures) (uninterpretedEscape (entry .args .buf .now) here) refl to-come _ (c .lay-if .result) (c .lay-if .ensures)
 
   one : c .lay-if .result .count ≤ 1
-  one = wrote-count (few-when (c .before .before .lone-at .result) (entry .args .buf .now) 2 here 0 0) _ _ (c .lay-if .result) (c .lay-if .ensures .1) (c .lay-if .ensures .0)
+  one = did-count (few-when (c .before .before .lone-at .result) (uninterpretedEscape (entry .args .buf .now) here) refl) _ _ (c .lay-if .result) (c .lay-if .ensures)
 
 add-at : tie.Need-add-at Inv-loop μ-loop
 add-at c = let w = c .before .before .before in omega (arith, turn w .0, head w .loop .inv .1 .long, entry w .good)

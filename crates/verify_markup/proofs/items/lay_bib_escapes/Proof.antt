@@ -1,8 +1,8 @@
--- `items::lay_tag_marks` meets its contract. The loop's invariant: the records of the bytes from i on are to be laid behind those before.
+-- `items::lay_bib_escapes` meets its contract. The loop's invariant: the records of the bytes from i on are to be laid behind those before.
 -- Assumes nothing.
 use borrow.Author.Needs.{needs}
 use Prim.Native.Nat.{ℕ, _+_, _-_, _≤_}
-use mathlib.Core.Path.{_≡_}
+use mathlib.Core.Path.{_≡_, refl}
 use mathlib.Core.Bool.{Bool, _||_}
 use mathlib.Core.List.{List, _++_}
 use native.Mathlib.Omega.{arith}
@@ -10,15 +10,15 @@ use lib.ListN.{length}
 use Rattle.look.specs.Look.{byteAt}
 use Rattle.scans.specs.Marks.{tick, tilde}
 use Rattle.records.proofs.Laying.{Laying, back, laying-starts, all-wrote, all-laid}
-use Rattle.verify_markup.specs.Diag.{diagWidth, diag, when}
-use Rattle.verify_markup.specs.Items.{tagMarks}
-use Rattle.verify_markup.proofs.DiagLaws.{few-when, wrote-count, turn-laid}
-use Rattle.verify_markup.proofs.ItemLaws.{marks-on, marks-end}
-use Rattle.verify_markup.proofs.items.lay_tag_marks.Statement.{statement}
-use Rattle.verify_markup.proofs.items.lay_tag_marks.Tie as tie
+use Rattle.verify_markup.specs.Diag.{diagWidth, when, bibEscape}
+use Rattle.verify_markup.specs.Items.{bibEscapes}
+use Rattle.verify_markup.proofs.DiagLaws.{few-when, did-count, turn-laid}
+use Rattle.verify_markup.proofs.ItemLaws.{escapes-on, escapes-end}
+use Rattle.verify_markup.proofs.items.lay_bib_escapes.Statement.{statement}
+use Rattle.verify_markup.proofs.items.lay_bib_escapes.Tie as tie
 
 abbrev Inv-loop : tie.InvT-loop
-Inv-loop buf start end room₀ i₀ at₀ n₀ room i at n = (n + start ≤ i) × (i ≤ end) × Laying diagWidth (tagMarks buf start end (end - start) start) (tagMarks buf start end (end - i) i) room₀ room at n
+Inv-loop buf start end room₀ i₀ at₀ n₀ room i at n = (n + start ≤ i) × (i ≤ end) × Laying diagWidth (bibEscapes buf start end (end - start) start) (bibEscapes buf start end (end - i) i) room₀ room at n
 
 abbrev μ-loop : tie.MeasureT-loop
 μ-loop buf start end room₀ i₀ at₀ n₀ room i at n = end - i
@@ -61,31 +61,31 @@ module _ (c : tie.After-lay-if Inv-loop μ-loop) where
   abbrev here : ℕ
   here = head .loop .i
 
-  abbrev marked : Bool
-  marked = c .before .before .before .byte-at .result || c .before .before .byte-at2 .result
+  abbrev told : Bool
+  told = c .before .before .before .byte-at .result || c .before .before .byte-at2 .result
 
   abbrev all : List (List ℕ)
-  all = let a = entry .args in tagMarks (a .buf .now) (a .start) (a .end) (a .end - a .start) (a .start)
+  all = let a = entry .args in bibEscapes (a .buf .now) (a .start) (a .end) (a .end - a .start) (a .start)
 
   abbrev rest : List (List ℕ)
-  rest = let a = entry .args in tagMarks (a .buf .now) (a .start) (a .end) (a .end - (here + 1)) (here + 1)
+  rest = let a = entry .args in bibEscapes (a .buf .now) (a .start) (a .end) (a .end - (here + 1)) (here + 1)
 
-  abbrev isMark : Bool
-  isMark = byteAt (entry .args .buf .now) here tick || byteAt (entry .args .buf .now) here tilde
+  abbrev isEscape : Bool
+  isEscape = byteAt (entry .args .buf .now) here tick || byteAt (entry .args .buf .now) here tilde
 
-  marked-is : marked ≡ isMark
-  marked-is = either (c .before .before .before .byte-at .ensures) (c .before .before .byte-at2 .ensures)
+  told-is : told ≡ isEscape
+  told-is = either (c .before .before .before .byte-at .ensures) (c .before .before .byte-at2 .ensures)
 
-  to-come : Laying diagWidth all (when isMark (diag (entry .args .buf .now) 7 here (entry .args .start) (entry .args .end)) ++ rest) (entry .args .room .now) (head .loop .room) (head .loop .at) (head .loop .n)
-  to-come = rw (marks-on (entry .args .buf .now) (entry .args .start) (entry .args .end) here (c .before .before .before .before .loop-test .taken)) at (head .loop .inv .2)
+  to-come : Laying diagWidth all (when isEscape (bibEscape (entry .args .buf .now) here (entry .args .start) (entry .args .end)) ++ rest) (entry .args .room .now) (head .loop .room) (head .loop .at) (head .loop .n)
+  to-come = rw (escapes-on (entry .args .buf .now) (entry .args .start) (entry .args .end) here (c .before .before .before .before .loop-test .taken)) at (head .loop .inv .2)
 
   turn : (head .loop .at + c .lay-if .result .words ≤ length (head .loop .room))
       × Laying diagWidth all rest (entry .args .room .now)
       (back (head .loop .at) (head .loop .room) (c .lay-if .last .1 .1 .1 .1 .1 .1 .0)) (head .loop .at + c .lay-if .result .words) (head .loop .n + c .lay-if .result .count)
-  turn = turn-laid marked isMark marked-is (entry .args .buf .now) 7 here (entry .args .start) (entry .args .end) to-come _ (c .lay-if .result) (c .lay-if .ensures .1) (c .lay-if .ensures .0)
+  turn = turn-laid told isEscape told-is (bibEscape (entry .args .buf .now) here (entry .args .start) (entry .args .end)) refl to-come _ (c .lay-if .result) (c .lay-if .ensures)
 
   one : c .lay-if .result .count ≤ 1
-  one = wrote-count (few-when marked (entry .args .buf .now) 7 here (entry .args .start) (entry .args .end)) _ _ (c .lay-if .result) (c .lay-if .ensures .1) (c .lay-if .ensures .0)
+  one = did-count (few-when told (bibEscape (entry .args .buf .now) here (entry .args .start) (entry .args .end)) refl) _ _ (c .lay-if .result) (c .lay-if .ensures)
 
 add-at : tie.Need-add-at Inv-loop μ-loop
 add-at c = omega (arith, turn (c .before .before .before) .0, c .before .before .before .before .before .before .before .before .loop .inv .2 .long, c .before .before .before .before .before .before .before .before .before .before .before .good)
@@ -111,11 +111,11 @@ same-length c = search needs
 returns : tie.Need-returns Inv-loop μ-loop
 returns c =
     let l = c .before .loop in
-    let done = rw (marks-end _ _ _ _ (c .loop-test .left)) at (l .inv .2) in
+    let done = rw (escapes-end _ _ _ _ (c .loop-test .left)) at (l .inv .2) in
     (all-wrote done, all-laid done)
 
-pub lay-tag-marks-spec : {M : Type 1} → statement M
-lay-tag-marks-spec =
+pub lay-bib-escapes-spec : {M : Type 1} → statement M
+lay-bib-escapes-spec =
     tie.close
     (tie.spec
     Inv-loop
