@@ -174,19 +174,21 @@ pub fn next_match(text: &[u8], from: usize) -> Search
     let mut i: usize = 0;
     'candidates: while at < text.len() {
         let opening = at;
-        at += 1;
+        let next = at + 1;
         if text[opening] != b'(' {
-            at = to_opening(text, at);
+            at = to_opening(text, next);
             continue 'candidates;
         }
-        if let Head::Kind(kind, end) = notice_at(text, opening + 1) {
+        if let Head::Kind(kind, end) = notice_at(text, next) {
             return Search::Hit(noticed(opening, kind, end));
         }
-        let Head::Kind(kind, first) = head_at(text, opening + 1) else {
+        let Head::Kind(kind, first) = head_at(text, next) else {
+            at = next;
             continue 'candidates;
         };
         // A field that starts inside the last one comes to the same place, and is left there too.
         if (start <= first) & (first <= i) {
+            at = next;
             continue 'candidates;
         }
         start = first;
@@ -197,11 +199,13 @@ pub fn next_match(text: &[u8], from: usize) -> Search
             }
             let n = author_len(text, i);
             if n == 0 {
+                at = next;
                 continue 'candidates;
             }
             i += n;
         }
         let Tail::Closed(closing) = tail_at(text, i) else {
+            at = next;
             continue 'candidates;
         };
         return Search::Hit(credited(opening, kind, start, closing));

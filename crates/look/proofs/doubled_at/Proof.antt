@@ -1,6 +1,7 @@
 use Rattle.look.proofs.Laws.{byte-past, doubled-not}
 use Rattle.look.specs.Look.{doubledAt}
-use mathlib.Core.Path.{sym}
+use mathlib.Core.Path.{ap₂, sym}
+use mathlib.Core.Bool.{_&&_}
 use borrow.Author.Needs.{needs}
 use Rattle.look.proofs.doubled_at.Statement.{statement}
 use Rattle.look.proofs.doubled_at.Tie as tie
@@ -16,7 +17,7 @@ byte-at-requires-2 c κs = search needs
 
 returns : tie.Need-returns
 unfolding doubledAt
-returns c = cc
+returns c = ap₂ _&&_ (c .before .byte-at .ensures) (c .byte-at2 .ensures)
 
 returns-2 : tie.Need-returns-2
 returns-2 c = sym (doubled-not _ _ _ (byte-past _ _ _ (c .if1 .left)))

@@ -23,10 +23,10 @@ use Rattle.parentheticals.proofs.matching.next_match.Statement.{stateme
 use Rattle.parentheticals.proofs.matching.next_match.Tie as tie
 
 abbrev Inv-field : tie.InvT-field
-Inv-field text from at start i₀ opening kind first i = (first ≤ i) × Way barsNothing text first i
+Inv-field text from at₀ start i₀ opening next kind first at i = (first ≤ i) × Way barsNothing text first i
 
 abbrev μ-field : tie.MeasureT-field
-μ-field text from at start i₀ opening kind first i = length text - i
+μ-field text from at₀ start i₀ opening next kind first at i = length text - i
 
 abbrev Inv-candidates : tie.InvT-candidates
 Inv-candidates text from at₀ start₀ i₀ at start i = (nextFrom barsNothing text at ≡ nextFrom barsNothing text from) × Barren barsNothing text start i
@@ -64,6 +64,10 @@ module _ (f : tie.At-field Inv-field μ-field Inv-candidates μ-candidates) wher
   begins : Begins s (opening + 1) first
   begins = head-begins s (opening + 1) (omega (arith, inside)) _ _ head
 
+  -- the field lies behind its opening, so a search that went on anywhere in it would still come to an end
+  behind : opening < f .field .i
+  behind = omega (arith, begins .after, f .field .inv .0)
+
   -- the field from its start is the field from here
   on-way : authorEnd barsNothing s first ≡ authorEnd barsNothing s (f .field .i)
   on-way = f .field .inv .1 first (le-refl first) (f .field .inv .0) (begins .spaced)
@@ -80,8 +84,8 @@ module _ (f : tie.At-field Inv-field μ-field Inv-candidates μ-candidates) wher
 candidates-holds : tie.Need-candidates-holds Inv-field μ-field Inv-candidates μ-candidates
 candidates-holds c = (refl, barren-none _ _)
 
-add-at : tie.Need-add-at Inv-field μ-field Inv-candidates μ-candidates
-add-at c = search needs
+add-next : tie.Need-add-next Inv-field μ-field Inv-candidates μ-candidates
+add-next c = search needs
 
 shared-slice-read-if1 :
     tie.Need-shared-slice-read-if1 Inv-field μ-field Inv-candidates μ-candidates
@@ -98,9 +102,6 @@ candidates-again c =
     let at = c .before .before .before .before .candidates in
     let h = c .before .before .before .candidates-test .taken in
     (sym (next-miss _ _ _ h (no-opening _ _ _ h (c .before .if1 .taken)) ∙ c .to-opening .ensures .same) ∙ at .inv .0, at .inv .1)
-
-add-notice-at : tie.Need-add-notice-at Inv-field μ-field Inv-candidates μ-candidates
-add-notice-at c = search needs
 
 notice-at-requires : tie.Need-notice-at-requires Inv-field μ-field Inv-candidates μ-candidates
 notice-at-requires c κs = search needs
@@ -120,9 +121,6 @@ returns c =
 
 enum-told : tie.Need-enum-told Inv-field μ-field Inv-candidates μ-candidates
 enum-told c = search needs
-
-add-head-at : tie.Need-add-head-at Inv-field μ-field Inv-candidates μ-candidates
-add-head-at c = search needs
 
 head-at-requires : tie.Need-head-at-requires Inv-field μ-field Inv-candidates μ-candidates
 head-at-requires c κs = search needs
@@ -170,7 +168,7 @@ author-len-requires : tie.Need-author-len-requires Inv-field μ-field Inv-candid
 author-len-requires c κs = search needs
 
 candidates-less-4 : tie.Need-candidates-less-4 Inv-field μ-field Inv-candidates μ-candidates
-candidates-less-4 c = search needs
+candidates-less-4 c = let f = c .before .before .before .before in omega (arith, inside f, behind f)
 
 candidates-again-4 : tie.Need-candidates-again-4 Inv-field μ-field Inv-candidates μ-candidates
 candidates-again-4 c =
@@ -200,7 +198,7 @@ enum-told-3 : tie.Need-enum-told-3 Inv-field μ-field Inv-candidates μ-candidat
 enum-told-3 c = search needs
 
 candidates-less-5 : tie.Need-candidates-less-5 Inv-field μ-field Inv-candidates μ-candidates
-candidates-less-5 c = search needs
+candidates-less-5 c = let f = c .before .before .before .before .before in omega (arith, inside f, behind f)
 
 candidates-again-5 : tie.Need-candidates-again-5 Inv-field μ-field Inv-candidates μ-candidates
 candidates-again-5 c =
@@ -232,18 +230,16 @@ next-match-spec =
     Inv-candidates
     μ-candidates
     candidates-holds
-    add-at
+    add-next
     shared-slice-read-if1
     to-opening-requires
     candidates-less
     candidates-again
-    add-notice-at
     notice-at-requires
     enum-known-kind
     noticed-requires
     returns
     enum-told
-    add-head-at
     head-at-requires
     enum-known-kind-2
     enum-told-2
