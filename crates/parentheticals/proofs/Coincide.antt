@@ -12,7 +12,8 @@ use Rattle.parentheticals.specs.Matching.{span}
 use Rattle.parentheticals.specs.Answers.{fresh, startedAnswer, stepAnswer, flaggedAnswer}
 use Rattle.parentheticals.specs.declared.Span.{Span}
 use Rattle.parentheticals.specs.declared.Parenthetical.{Parenthetical}
-use Rattle.parentheticals.specs.declared.Parenthetical.the-variants.{ContributedBy, RevisedBy, ProofShortenedBy, ProofModificationDiscouraged, NewUsageDiscouraged}
+use Rattle.parentheticals.specs.declared.Parenthetical.the-variants.{ContributedBy, RevisedBy, ProofShortenedBy}
+use Rattle.parentheticals.specs.declared.Parenthetical.the-variants.{ProofModificationDiscouraged, NewUsageDiscouraged}
 use Rattle.parentheticals.specs.declared.Started.{Started}
 use Rattle.parentheticals.specs.declared.Started.the-variants as started
 use Rattle.parentheticals.specs.declared.Step.{Step}
@@ -55,7 +56,8 @@ step-back : (r : Step) → readBack stepBack step.Refused (stepAnswer r) ≡ r
 unfolding stepBack itemBack
 step-back (step.Next f) = go (f .whole) (f .item)
   where
-    go : (whole : Span) (item : Parenthetical) → readBack stepBack step.Refused (stepAnswer (step.Next (record { whole = whole; item = item }))) ≡ step.Next (record { whole = whole; item = item })
+    go : (whole : Span) (item : Parenthetical)
+        → readBack stepBack step.Refused (stepAnswer (step.Next (record { whole = whole; item = item }))) ≡ step.Next (record { whole = whole; item = item })
     go whole (ContributedBy author date) = refl
     go whole (RevisedBy author date) = refl
     go whole (ProofShortenedBy author date) = refl

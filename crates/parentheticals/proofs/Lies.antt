@@ -14,10 +14,12 @@ use Rattle.byte_rules.specs.Text.{bytes}
 use Rattle.look.specs.Look.{byteAt}
 use Rattle.look.proofs.Laws.{byte-within}
 use Rattle.parentheticals.specs.Fields.{_>>=_, phraseAt, dateAt, authorEnd}
-use Rattle.parentheticals.specs.Matching.{ofKind, authorAfter, headAt, noticeAt, closing, tailAt, creditOf, noticeOf, credited, noticed, restAt, creditAt, matchAt, firstOf, nextFrom}
+use Rattle.parentheticals.specs.Matching.{ofKind, authorAfter, headAt, noticeAt, closing, tailAt, creditOf, noticeOf, credited, noticed}
+use Rattle.parentheticals.specs.Matching.{restAt, creditAt, matchAt, firstOf, nextFrom}
 use Rattle.parentheticals.specs.declared.Span.{Span}
 use Rattle.parentheticals.specs.declared.Parenthetical.{Parenthetical}
-use Rattle.parentheticals.specs.declared.Parenthetical.the-variants.{ContributedBy, RevisedBy, ProofShortenedBy, ProofModificationDiscouraged, NewUsageDiscouraged}
+use Rattle.parentheticals.specs.declared.Parenthetical.the-variants.{ContributedBy, RevisedBy, ProofShortenedBy}
+use Rattle.parentheticals.specs.declared.Parenthetical.the-variants.{ProofModificationDiscouraged, NewUsageDiscouraged}
 use Rattle.parentheticals.specs.declared.Found.{Found}
 use Rattle.parentheticals.specs.declared.matching.Closing.{Closing}
 use Rattle.parentheticals.proofs.Inside.{never, phrase-inside, date-inside, Begins, start-begins}
@@ -87,7 +89,8 @@ tail-closes : (s : List ℕ) (b : ℕ) (t : Closing) → b ≤ length s → tail
 unfolding tailAt
 tail-closes s b t h q = spaces (phraseAt (bytes ", ") s b) refl
   where
-    close : (d e : ℕ) (p : Option ℕ) → phraseAt (bytes ".)") s e ≡ p → b < d → d < e → e ≤ length s → (p >>= (λ j. some (closing b d e j))) ≡ some t → Closes (length s) b t
+    close : (d e : ℕ) (p : Option ℕ) → phraseAt (bytes ".)") s e ≡ p → b < d → d < e → e ≤ length s
+        → (p >>= (λ j. some (closing b d e j))) ≡ some t → Closes (length s) b t
     close d e (some j) f x y z g =
         let same : closing b d e j ≡ t = cc in
         let r = phrase-inside (bytes ".)") s e j z f in
@@ -167,7 +170,9 @@ module _ (bars : ℕ → Bool) (s : List ℕ) where
             behind = omega arith;
             onward = omega (arith, g .after, c .after, c .dated, c .before);
             inside = c .inside;
-            fields = credit-order _ _ _ k (record { opened = omega (arith, g .after); named = omega arith; parted = omega (arith, c .after); dated = c .dated; closed = c .before });
+            fields =
+                credit-order _ _ _ k
+                (record { opened = omega (arith, g .after); named = omega arith; parted = omega (arith, c .after); dated = c .dated; closed = c .before });
           })
       tail k a b none q g x y d = never d
 

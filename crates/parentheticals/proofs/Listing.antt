@@ -17,7 +17,8 @@ use Rattle.parentheticals.specs.Matching.{nextFrom, stepFrom, bytesLeft,
 use Rattle.parentheticals.specs.Records.{authorOf, dateOf, recordOf, recordWidth, recordsOf, InWords}
 use Rattle.parentheticals.specs.declared.Span.{Span}
 use Rattle.parentheticals.specs.declared.Parenthetical.{Parenthetical}
-use Rattle.parentheticals.specs.declared.Parenthetical.the-variants.{ContributedBy, RevisedBy, ProofShortenedBy, ProofModificationDiscouraged, NewUsageDiscouraged}
+use Rattle.parentheticals.specs.declared.Parenthetical.the-variants.{ContributedBy, RevisedBy, ProofShortenedBy}
+use Rattle.parentheticals.specs.declared.Parenthetical.the-variants.{ProofModificationDiscouraged, NewUsageDiscouraged}
 use Rattle.parentheticals.specs.declared.Found.{Found}
 use Rattle.parentheticals.proofs.Inside.{never}
 use Rattle.parentheticals.proofs.Lies.{Ordered, InOrder, Lies, next-lies}
@@ -57,7 +58,8 @@ AllLie from to (f ∷ fs) = Lies from to f × AllLie (f .whole .end) to fs
 
 module _ (bars : ℕ → Bool) (s : List ℕ) where
   -- what holds of the empty list, and of a list with one more in front, holds of the list from each place on
-  matches-all : (P : ℕ → List Found → Type 0) → ((i : ℕ) → P i []) → ((i : ℕ) (f : Found) (fs : List Found) → Lies i (length s) f → P (f .whole .end) fs → P i (f ∷ fs))
+  matches-all : (P : ℕ → List Found → Type 0) → ((i : ℕ) → P i [])
+      → ((i : ℕ) (f : Found) (fs : List Found) → Lies i (length s) f → P (f .whole .end) fs → P i (f ∷ fs))
       → (n i : ℕ) → length s - i ≤ n → P i (matchesFrom bars s i)
   matches-all P none-left one-more zero i h = go (nextFrom bars s i) refl
     where
@@ -78,7 +80,8 @@ module _ (bars : ℕ → Bool) (s : List ℕ) where
   -- no more than bytes
   pub matches-most : (i : ℕ) → length (matchesFrom bars s i) ≤ length s - i
   matches-most i =
-      matches-all (λ j fs. length fs ≤ length s - j) (λ j. omega arith) (λ j f fs r most. omega (arith, r .behind, r .onward, r .inside)) (length s - i) i (le-refl _)
+      matches-all (λ j fs. length fs ≤ length s - j) (λ j. omega arith)
+      (λ j f fs r most. omega (arith, r .behind, r .onward, r .inside)) (length s - i) i (le-refl _)
 
 -- ---- the records
 

@@ -13,7 +13,8 @@ use Rattle.records.specs.Produced.{produced}
 use Rattle.parentheticals.specs.Fields.{_>>=_, phraseAt, dateAt, authorStart, authorEnd}
 use Rattle.parentheticals.specs.declared.Span.{Span}
 use Rattle.parentheticals.specs.declared.Parenthetical.{Parenthetical}
-use Rattle.parentheticals.specs.declared.Parenthetical.the-variants.{ContributedBy, RevisedBy, ProofShortenedBy, ProofModificationDiscouraged, NewUsageDiscouraged}
+use Rattle.parentheticals.specs.declared.Parenthetical.the-variants.{ContributedBy, RevisedBy, ProofShortenedBy}
+use Rattle.parentheticals.specs.declared.Parenthetical.the-variants.{ProofModificationDiscouraged, NewUsageDiscouraged}
 use Rattle.parentheticals.specs.declared.Found.{Found}
 use Rattle.parentheticals.specs.declared.matching.Head.{Head}
 use Rattle.parentheticals.specs.declared.matching.Head.the-variants.{Kind, NoKind}

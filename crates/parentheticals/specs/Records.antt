@@ -8,7 +8,8 @@ use Rattle.records.specs.Records.{listAnswer, listLeft}
 use Rattle.parentheticals.specs.Matching.{span, matchesFrom}
 use Rattle.parentheticals.specs.declared.Span.{Span}
 use Rattle.parentheticals.specs.declared.Parenthetical.{Parenthetical}
-use Rattle.parentheticals.specs.declared.Parenthetical.the-variants.{ContributedBy, RevisedBy, ProofShortenedBy, ProofModificationDiscouraged, NewUsageDiscouraged}
+use Rattle.parentheticals.specs.declared.Parenthetical.the-variants.{ContributedBy, RevisedBy, ProofShortenedBy}
+use Rattle.parentheticals.specs.declared.Parenthetical.the-variants.{ProofModificationDiscouraged, NewUsageDiscouraged}
 use Rattle.parentheticals.specs.declared.Found.{Found}
 
 -- kinds 1 to 5 in the enum's order

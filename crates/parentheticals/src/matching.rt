@@ -2,7 +2,8 @@
 ghost use mathlib.Core.Path.{_≡_};
 ghost use Rattle.byte_rules.specs.Reading.{rust};
 ghost use Rattle.parentheticals.specs.Fields.{placeOf};
-ghost use Rattle.parentheticals.specs.Matching.{headOf, tailOf, foundOf, authorAfter, headAt, noticeAt, tailAt, creditOf, noticeOf, credited, noticed, nextFrom, Passed};
+ghost use Rattle.parentheticals.specs.Matching.{headOf, tailOf, foundOf, authorAfter, headAt, noticeAt, tailAt};
+ghost use Rattle.parentheticals.specs.Matching.{creditOf, noticeOf, credited, noticed, nextFrom, Passed};
 use crate::Found;
 use crate::Parenthetical;
 use crate::Span;

@@ -1,3 +1,5 @@
+-- `look::blank_at` meets its contract.
+-- Assumes nothing.
 use Rattle.look.proofs.Laws.{holds-in, holds-past}
 use Rattle.look.specs.Look.{blankAt}
 use mathlib.Core.Path.{sym, _∙_}

@@ -1,3 +1,5 @@
+-- `look::byte_at` meets its contract.
+-- Assumes nothing.
 use Rattle.look.proofs.Laws.{byte-test, byte-past}
 use mathlib.Core.Path.{sym}
 use borrow.Author.Needs.{needs}

@@ -1,3 +1,5 @@
+-- `look::closer_at` meets its contract.
+-- Assumes nothing.
 use Rattle.look.proofs.Laws.{holds-in, holds-past}
 use Rattle.look.specs.Look.{closerAt}
 use mathlib.Core.Path.{sym, _∙_}

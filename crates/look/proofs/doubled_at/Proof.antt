@@ -1,3 +1,5 @@
+-- `look::doubled_at` meets its contract.
+-- Assumes nothing.
 use Rattle.look.proofs.Laws.{byte-past, doubled-not}
 use Rattle.look.specs.Look.{doubledAt}
 use mathlib.Core.Path.{ap₂, sym}

@@ -1,3 +1,5 @@
+-- `look::italic_opener_at` meets its contract.
+-- Assumes nothing.
 use Rattle.look.proofs.Laws.{holds-in, holds-past}
 use Rattle.look.specs.Look.{italicOpenerAt}
 use mathlib.Core.Path.{sym, _∙_}

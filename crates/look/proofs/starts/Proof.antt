@@ -1,4 +1,5 @@
 -- `look::starts` meets its contract: the word's rest stands here just where the word stands at the start.
+-- Assumes nothing.
 use Prim.Native.Nat.{_≤_, _-_}
 use mathlib.Core.Path.{_≡_, refl, sym, _∙_}
 use native.Mathlib.Omega.{arith}

@@ -1,3 +1,5 @@
+-- `look::word_at` meets its contract.
+-- Assumes nothing.
 use Rattle.basics.proofs.Laws.{rest-is}
 use Rattle.look.proofs.Laws.{word-past, word-here}
 use mathlib.Core.Path.{_∙_}

@@ -42,14 +42,16 @@ enum-told-2 c = search needs
 returns-2 : tie.Need-returns-2
 unfolding nextAnswer nextState
 returns-2 c =
-    let good = sym (c .before .before .before .before .before .before .before .check-state .ensures) ∙ ap checkedAnswer (c .before .before .before .before .before .enum-told .given .1) in
+    let good-place = c .before .before .before .before .before in
+    let good = sym (good-place .before .before .check-state .ensures) ∙ ap checkedAnswer (good-place .enum-told .given .1) in
     let hit = sym (c .before .before .before .next-match .ensures) ∙ ap foundOf (c .before .found .given .1) in
     (rw (good, hit), rw (good, hit))
 
 returns-3 : tie.Need-returns-3
 unfolding nextAnswer nextState
 returns-3 c =
-    let good = sym (c .before .before .before .before .before .before .check-state .ensures) ∙ ap checkedAnswer (c .before .before .before .before .enum-told .given .1) in
+    let good-place = c .before .before .before .before in
+    let good = sym (good-place .before .before .check-state .ensures) ∙ ap checkedAnswer (good-place .enum-told .given .1) in
     let nothing = sym (c .before .before .next-match .ensures) ∙ ap foundOf (c .enum-told2 .given .1) in
     (rw (good, nothing), rw (good, nothing))
 

@@ -19,7 +19,9 @@ char-len-requires : tie.Need-char-len-requires
 char-len-requires c κs = search needs
 
 returns-2 : tie.Need-returns-2
-returns-2 c = c .char-len .ensures ∙ len-char _ _ (c .before .before .before .before .if1 .left) (sym (c .before .before .is-author-byte .ensures) ∙ c .before .if2 .taken)
+returns-2 c =
+    let author = sym (c .before .before .is-author-byte .ensures) ∙ c .before .if2 .taken in
+    c .char-len .ensures ∙ len-char _ _ (c .before .before .before .before .if1 .left) author
 
 returns-3 : tie.Need-returns-3
 returns-3 c = len-other _ _ (c .before .before .before .if1 .left) (sym (c .before .is-author-byte .ensures) ∙ c .if2 .left)

@@ -27,7 +27,8 @@ byte-at-requires c κs = search needs
 
 add-if2 : tie.Need-add-if2
 add-if2 c =
-    let spaces = sym (c .before .before .before .before .before .spaces-at .ensures) ∙ ap placeOf (c .before .before .before .end .given .1) in
+    let spaced = c .before .before .before in
+    let spaces = sym (spaced .before .before .spaces-at .ensures) ∙ ap placeOf (spaced .end .given .1) in
     omega (arith, spaces-are _ _ _ spaces, byte-within _ _ _ (sym (c .before .byte-at .ensures) ∙ c .if1 .taken))
 
 sub-t8 : tie.Need-sub-t8
@@ -35,17 +36,20 @@ sub-t8 c = search needs
 
 returns-2 : tie.Need-returns-2
 returns-2 c =
-    let spaces = sym (c .before .before .before .before .before .before .spaces-at .ensures) ∙ ap placeOf (c .before .before .before .before .end .given .1) in
+    let spaced = c .before .before .before .before in
+    let spaces = sym (spaced .before .before .spaces-at .ensures) ∙ ap placeOf (spaced .end .given .1) in
     author-back _ _ _ spaces (sym (c .before .before .byte-at .ensures) ∙ c .before .if1 .taken) (c .if2 .taken)
 
 returns-3 : tie.Need-returns-3
 returns-3 c =
-    let spaces = sym (c .before .before .before .before .before .before .spaces-at .ensures) ∙ ap placeOf (c .before .before .before .before .end .given .1) in
+    let spaced = c .before .before .before .before in
+    let spaces = sym (spaced .before .before .spaces-at .ensures) ∙ ap placeOf (spaced .end .given .1) in
     author-one _ _ _ spaces (sym (c .before .before .byte-at .ensures) ∙ c .before .if1 .taken) (c .if2 .left)
 
 returns-4 : tie.Need-returns-4
 returns-4 c =
-    let spaces = sym (c .before .before .before .before .before .spaces-at .ensures) ∙ ap placeOf (c .before .before .before .end .given .1) in
+    let spaced = c .before .before .before in
+    let spaces = sym (spaced .before .before .spaces-at .ensures) ∙ ap placeOf (spaced .end .given .1) in
     author-here _ _ _ spaces (sym (c .before .byte-at .ensures) ∙ c .if1 .left)
 
 pub author-start-spec : {M : Type 1} → statement M

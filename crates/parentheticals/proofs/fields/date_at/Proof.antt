@@ -30,7 +30,9 @@ picture-at-requires-2 c κs = search needs
 
 returns-2 : tie.Need-returns-2
 unfolding dateAt
-returns-2 c = rw (sym (c .before .before .before .before .picture-at .ensures) ∙ ap placeOf (c .before .before .enum-told .given .1)) (c .picture-at2 .ensures)
+returns-2 c =
+    let first = sym (c .before .before .before .before .picture-at .ensures) ∙ ap placeOf (c .before .before .enum-told .given .1) in
+    rw first (c .picture-at2 .ensures)
 
 pub date-at-spec : {M : Type 1} → statement M
 date-at-spec =

@@ -33,7 +33,8 @@ enum-told c = search needs
 returns : tie.Need-returns Inv-loop μ-loop
 returns c =
     let none-here = sym (c .before .before .sign-at .ensures) ∙ ap placeOf (c .enum-told .given .1) in
-    sym (phrase-stop _ _ _ _ (c .before .before .before .before .loop-test .taken) none-here) ∙ c .before .before .before .before .before .loop .inv
+    let turn = c .before .before .before .before in
+    sym (phrase-stop _ _ _ _ (turn .loop-test .taken) none-here) ∙ turn .before .loop .inv
 
 add-k : tie.Need-add-k Inv-loop μ-loop
 add-k c = search needs
@@ -44,7 +45,8 @@ loop-less c = search needs
 loop-again : tie.Need-loop-again Inv-loop μ-loop
 loop-again c =
     let here = sym (c .before .before .before .sign-at .ensures) ∙ ap placeOf (c .before .j .given .1) in
-    sym (phrase-next _ _ _ _ (c .before .before .before .before .before .loop-test .taken) _ here) ∙ c .before .before .before .before .before .before .loop .inv
+    let turn = c .before .before .before .before .before in
+    sym (phrase-next _ _ _ _ (turn .loop-test .taken) _ here) ∙ turn .before .loop .inv
 
 returns-2 : tie.Need-returns-2 Inv-loop μ-loop
 returns-2 c = sym (phrase-end _ _ _ _ (c .loop-test .left)) ∙ c .before .loop .inv

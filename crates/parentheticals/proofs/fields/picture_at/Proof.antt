@@ -42,12 +42,14 @@ loop-less c = search needs
 loop-again : tie.Need-loop-again Inv-loop μ-loop
 loop-again c =
     let fit = sym (c .before .is-fit .ensures) ∙ c .if2 .taken in
-    sym (picture-next _ _ _ _ (c .before .before .before .before .before .loop-test .taken) (c .before .before .before .before .if1 .left) fit) ∙ c .before .before .before .before .before .before .loop .inv
+    let turn = c .before .before .before .before .before in
+    sym (picture-next _ _ _ _ (turn .loop-test .taken) (c .before .before .before .before .if1 .left) fit) ∙ turn .before .loop .inv
 
 returns-2 : tie.Need-returns-2 Inv-loop μ-loop
 returns-2 c =
     let no-fit = sym (c .before .is-fit .ensures) ∙ c .if2 .left in
-    sym (picture-stop _ _ _ _ (c .before .before .before .before .before .loop-test .taken) (c .before .before .before .before .if1 .left) no-fit) ∙ c .before .before .before .before .before .before .loop .inv
+    let turn = c .before .before .before .before .before in
+    sym (picture-stop _ _ _ _ (turn .loop-test .taken) (c .before .before .before .before .if1 .left) no-fit) ∙ turn .before .loop .inv
 
 returns-3 : tie.Need-returns-3 Inv-loop μ-loop
 returns-3 c = sym (picture-end _ _ _ _ (c .loop-test .left)) ∙ c .before .loop .inv

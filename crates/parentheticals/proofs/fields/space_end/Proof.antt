@@ -34,12 +34,14 @@ loop-less c = search needs
 loop-again : tie.Need-loop-again Inv-loop μ-loop
 loop-again c =
     let space = sym (c .before .is-credit-space .ensures) ∙ c .if1 .taken in
-    omega (arith, run-more (c .before .before .before .before .before .before .args .text .now) (c .before .before .before .before .loop .i) (c .before .before .before .loop-test .taken) space)
+    let turn = c .before .before .before in
+    omega (arith, run-more (turn .before .before .before .args .text .now) (turn .before .loop .i) (turn .loop-test .taken) space)
 
 returns : tie.Need-returns Inv-loop μ-loop
 returns c =
     let space = sym (c .before .is-credit-space .ensures) ∙ c .if1 .left in
-    omega (arith, run-stop (c .before .before .before .before .before .before .args .text .now) (c .before .before .before .before .loop .i) (c .before .before .before .loop-test .taken) space)
+    let turn = c .before .before .before in
+    omega (arith, run-stop (turn .before .before .before .args .text .now) (turn .before .loop .i) (turn .loop-test .taken) space)
 
 returns-2 : tie.Need-returns-2 Inv-loop μ-loop
 returns-2 c = omega (arith, run-past (c .before .before .before .args .text .now) (c .before .loop .i) (c .loop-test .left))

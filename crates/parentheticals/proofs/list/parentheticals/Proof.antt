@@ -96,7 +96,9 @@ module _ (c : tie.After-put-found Inv-loop μ-loop) where
 
 -- at the end no record is to come
 none-to-come : (c : tie.After-enum-told2 Inv-loop μ-loop) → let l = c .before .before .before .before in Laid l [] (l .loop .out) (l .loop .at) (l .loop .n)
-none-to-come c = rw (records-end _ _ (sym (c .before .before .next-match .ensures) ∙ ap foundOf (c .enum-told2 .given .1))) at (c .before .before .before .before .loop .inv .laying)
+none-to-come c =
+    let nothing = sym (c .before .before .next-match .ensures) ∙ ap foundOf (c .enum-told2 .given .1) in
+    rw (records-end _ _ nothing) at (c .before .before .before .before .loop .inv .laying)
 
 loop-holds : tie.Need-loop-holds Inv-loop μ-loop
 loop-holds c =

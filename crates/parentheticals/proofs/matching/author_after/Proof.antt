@@ -25,7 +25,9 @@ author-start-requires c κs = search needs
 
 returns-2 : tie.Need-returns-2
 unfolding authorAfter
-returns-2 c = rw (sym (c .before .before .before .before .phrase-at .ensures) ∙ ap placeOf (c .before .before .i .given .1)) (c .author-start .ensures)
+returns-2 c =
+    let phrase = sym (c .before .before .before .before .phrase-at .ensures) ∙ ap placeOf (c .before .before .i .given .1) in
+    rw phrase (c .author-start .ensures)
 
 pub author-after-spec : {M : Type 1} → statement M
 author-after-spec =

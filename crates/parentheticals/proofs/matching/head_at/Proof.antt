@@ -35,7 +35,8 @@ enum-known-i-2 c = search needs
 returns-2 : tie.Need-returns-2
 unfolding headAt
 returns-2 c =
-    let first = sym (c .before .before .before .before .before .before .before .author-after .ensures) ∙ ap placeOf (c .before .before .before .before .before .enum-told .given .1) in
+    let first-place = c .before .before .before .before .before in
+    let first = sym (first-place .before .before .author-after .ensures) ∙ ap placeOf (first-place .enum-told .given .1) in
     let second = sym (c .before .before .before .author-after2 .ensures) ∙ ap placeOf (c .before .i2 .given .1) in
     rw (first, second)
 
@@ -54,8 +55,10 @@ enum-known-i-3 c = search needs
 returns-3 : tie.Need-returns-3
 unfolding headAt
 returns-3 c =
-    let first = sym (c .before .before .before .before .before .before .before .before .before .before .before .author-after .ensures) ∙ ap placeOf (c .before .before .before .before .before .before .before .before .before .enum-told .given .1) in
-    let second = sym (c .before .before .before .before .before .before .before .author-after2 .ensures) ∙ ap placeOf (c .before .before .before .before .before .enum-told2 .given .1) in
+    let first-place = c .before .before .before .before .before .before .before .before .before in
+    let first = sym (first-place .before .before .author-after .ensures) ∙ ap placeOf (first-place .enum-told .given .1) in
+    let second-place = c .before .before .before .before .before in
+    let second = sym (second-place .before .before .author-after2 .ensures) ∙ ap placeOf (second-place .enum-told2 .given .1) in
     let third = sym (c .before .before .before .author-after3 .ensures) ∙ ap placeOf (c .before .i3 .given .1) in
     rw (first, second, third)
 
@@ -65,8 +68,10 @@ enum-told-3 c = search needs
 returns-4 : tie.Need-returns-4
 unfolding headAt
 returns-4 c =
-    let first = sym (c .before .before .before .before .before .before .before .before .before .before .author-after .ensures) ∙ ap placeOf (c .before .before .before .before .before .before .before .before .enum-told .given .1) in
-    let second = sym (c .before .before .before .before .before .before .author-after2 .ensures) ∙ ap placeOf (c .before .before .before .before .enum-told2 .given .1) in
+    let first-place = c .before .before .before .before .before .before .before .before in
+    let first = sym (first-place .before .before .author-after .ensures) ∙ ap placeOf (first-place .enum-told .given .1) in
+    let second-place = c .before .before .before .before in
+    let second = sym (second-place .before .before .author-after2 .ensures) ∙ ap placeOf (second-place .enum-told2 .given .1) in
     let third = sym (c .before .before .author-after3 .ensures) ∙ ap placeOf (c .enum-told3 .given .1) in
     rw (first, second, third)
 

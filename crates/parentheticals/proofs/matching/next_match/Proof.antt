@@ -9,7 +9,7 @@ use mathlib.Core.List.{List}
 use mathlib.Core.Option.{none, some}
 use native.Mathlib.Nat.{le-refl}
 use native.Mathlib.Omega.{arith}
-use lib.ListN.{length}
+use lib.ListN.{length, getD}
 use borrow.Author.Tests.{leb-true}
 use Rattle.basics.proofs.Laws.{both}
 use Rattle.byte_rules.specs.Reading.{barsNothing}
@@ -17,7 +17,8 @@ use Rattle.parentheticals.specs.Fields.{authorEnd}
 use Rattle.parentheticals.specs.Matching.{headOf, tailOf, headAt, noticeAt, restAt, nextFrom}
 use Rattle.parentheticals.proofs.Inside.{Begins}
 use Rattle.parentheticals.proofs.Authors.{Way, len-fits, way-starts, way-on, author-comma, author-stop}
-use Rattle.parentheticals.proofs.Candidates.{Barren, barren-none, barren-way, rest-open, rest-tail, no-opening, is-notice, no-head, no-rest, is-credit, next-none, next-miss, next-hit}
+use Rattle.parentheticals.proofs.Candidates.{Barren, barren-none, barren-way, rest-open, rest-tail}
+use Rattle.parentheticals.proofs.Candidates.{no-opening, is-notice, no-head, no-rest, is-credit, next-none, next-miss, next-hit}
 use Rattle.parentheticals.proofs.Lies.{head-begins}
 use Rattle.parentheticals.proofs.matching.next_match.Statement.{statement}
 use Rattle.parentheticals.proofs.matching.next_match.Tie as tie
@@ -52,11 +53,14 @@ module _ (f : tie.At-field Inv-field μ-field Inv-candidates μ-candidates) wher
   abbrev first : ℕ
   first = f .before .before .before .kind2 .given .0 .1 .0
 
+  opened : getD s opening 0 ≡ 40
+  opened = f .before .before .before .before .before .before .before .before .before .if1 .left
+
   inside : opening < length s
   inside = f .before .before .before .before .before .before .before .before .before .before .before .candidates-test .taken
 
   no-notice : noticeAt s (opening + 1) ≡ none
-  no-notice = sym (f .before .before .before .before .before .before .before .before .notice-at .ensures) ∙ ap headOf (f .before .before .before .before .before .before .enum-told .given .1)
+  no-notice = let told = f .before .before .before .before .before .before in sym (told .before .before .notice-at .ensures) ∙ ap headOf (told .enum-told .given .1)
 
   head : headAt s (opening + 1) ≡ some (f .before .before .before .kind2 .given .0 .0, first)
   head = sym (f .before .before .before .before .before .head-at .ensures) ∙ ap headOf (f .before .before .before .kind2 .given .1)
@@ -78,7 +82,7 @@ module _ (f : tie.At-field Inv-field μ-field Inv-candidates μ-candidates) wher
   leave e =
       let barren = barren-way barsNothing s first (f .field .i) (f .field .inv .1) e in
       let here = barren first (le-refl first) (f .field .inv .0) (begins .spaced) in
-      let missed = no-rest barsNothing s opening inside (f .before .before .before .before .before .before .before .before .before .if1 .left) no-notice _ _ head here in
+      let missed = no-rest barsNothing s opening inside opened no-notice _ _ head here in
       (sym (next-miss barsNothing s opening inside missed) ∙ candidate f .candidates .inv .0, barren)
 
 candidates-holds : tie.Need-candidates-holds Inv-field μ-field Inv-candidates μ-candidates
@@ -117,7 +121,8 @@ returns c =
     let at = c .before .before .before .before .before .before .before .before .candidates in
     let h = c .before .before .before .before .before .before .before .candidates-test .taken in
     let notice = sym (c .before .before .before .before .notice-at .ensures) ∙ ap headOf (c .before .before .kind .given .1) in
-    ap some (c .noticed .ensures) ∙ sym (next-hit _ _ _ h _ (is-notice _ _ _ h (c .before .before .before .before .before .if1 .left) _ _ notice)) ∙ at .inv .0
+    let hit = is-notice _ _ _ h (c .before .before .before .before .before .if1 .left) _ _ notice in
+    ap some (c .noticed .ensures) ∙ sym (next-hit _ _ _ h _ hit) ∙ at .inv .0
 
 enum-told : tie.Need-enum-told Inv-field μ-field Inv-candidates μ-candidates
 enum-told c = search needs
@@ -140,7 +145,8 @@ candidates-again-2 c =
     let notice = sym (c .before .before .before .before .before .notice-at .ensures) ∙ ap headOf (c .before .before .before .enum-told .given .1) in
     let head-none = sym (c .before .before .head-at .ensures) ∙ ap headOf (c .enum-told2 .given .1) in
     let at = c .before .before .before .before .before .before .before .before .before .candidates in
-    (sym (next-miss _ _ _ h (no-head _ _ _ h (c .before .before .before .before .before .before .if1 .left) notice head-none)) ∙ at .inv .0, at .inv .1)
+    let missed = no-head _ _ _ h (c .before .before .before .before .before .before .if1 .left) notice head-none in
+    (sym (next-miss _ _ _ h missed) ∙ at .inv .0, at .inv .1)
 
 candidates-less-3 : tie.Need-candidates-less-3 Inv-field μ-field Inv-candidates μ-candidates
 candidates-less-3 c = search needs
@@ -151,12 +157,14 @@ candidates-again-3 c =
     let at = c .before .before .before .before .before .before .before .before .before .before .before .candidates in
     let h = c .before .before .before .before .before .before .before .before .before .before .candidates-test .taken in
     let k = c .before .before .kind2 .given .0 in
-    let notice = sym (c .before .before .before .before .before .before .before .notice-at .ensures) ∙ ap headOf (c .before .before .before .before .before .enum-told .given .1) in
+    let told = c .before .before .before .before .before in
+    let notice = sym (told .before .before .notice-at .ensures) ∙ ap headOf (told .enum-told .given .1) in
     let headed = sym (c .before .before .before .before .head-at .ensures) ∙ ap headOf (c .before .before .kind2 .given .1) in
     let among = both _ _ (c .if2 .taken) in
     let begun = head-begins text (at .at + 1) (omega arith) _ _ headed in
     let none-there = at .inv .1 (k .1 .0) (leb-true _ _ (among .0)) (leb-true _ _ (among .1)) (begun .spaced) in
-    (sym (next-miss _ _ _ h (no-rest _ _ _ h (c .before .before .before .before .before .before .before .before .if1 .left) notice _ _ headed none-there)) ∙ at .inv .0, at .inv .1)
+    let missed = no-rest _ _ _ h (c .before .before .before .before .before .before .before .before .if1 .left) notice _ _ headed none-there in
+    (sym (next-miss _ _ _ h missed) ∙ at .inv .0, at .inv .1)
 
 field-holds : tie.Need-field-holds Inv-field μ-field Inv-candidates μ-candidates
 field-holds c = (le-refl _, way-starts _ _ _)
@@ -177,10 +185,12 @@ candidates-again-4 c =
     leave f (rest-open _ _ _ (author-stop _ _ _ no-comma (sym (c .before .author-len .ensures) ∙ c .if4 .taken)))
 
 add-i : tie.Need-add-i Inv-field μ-field Inv-candidates μ-candidates
-add-i c = omega (arith, c .before .author-len .ensures, len-fits barsNothing (s (c .before .before .before .before)) (c .before .before .before .before .field .i))
+add-i c = let f = c .before .before .before .before in omega (arith, c .before .author-len .ensures, len-fits barsNothing (s f) (f .field .i))
 
 field-less : tie.Need-field-less Inv-field μ-field Inv-candidates μ-candidates
-field-less c = omega (arith, c .if4 .left, c .before .author-len .ensures, len-fits barsNothing (s (c .before .before .before .before)) (c .before .before .before .before .field .i))
+field-less c =
+    let f = c .before .before .before .before in
+    omega (arith, c .if4 .left, c .before .author-len .ensures, len-fits barsNothing (s f) (f .field .i))
 
 field-again : tie.Need-field-again Inv-field μ-field Inv-candidates μ-candidates
 field-again c =
@@ -212,11 +222,12 @@ credited-requires c κs = search needs
 returns-2 : tie.Need-returns-2 Inv-field μ-field Inv-candidates μ-candidates
 returns-2 c =
     let f = c .before .before .before .before .before .before .before in
-    let comma = author-comma barsNothing (s f) (f .field .i) (sym (c .before .before .before .before .before .before .byte-at .ensures) ∙ c .before .before .before .before .before .if3 .taken) in
-    let rest = rest-tail barsNothing (s f) (first f) _ _ (on-way f ∙ comma) (sym (c .before .before .before .before .tail-at .ensures) ∙ ap tailOf (c .before .before .closing .given .1)) in
-    ap some (c .credited .ensures)
-    ∙ sym (next-hit _ _ _ (inside f) _ (is-credit _ _ _ (inside f) (f .before .before .before .before .before .before .before .before .before .if1 .left) (no-notice f) _ _ (head f) _ rest))
-    ∙ candidate f .candidates .inv .0
+    let is-comma = sym (c .before .before .before .before .before .before .byte-at .ensures) ∙ c .before .before .before .before .before .if3 .taken in
+    let closed = sym (c .before .before .before .before .tail-at .ensures) ∙ ap tailOf (c .before .before .closing .given .1) in
+    let comma = author-comma barsNothing (s f) (f .field .i) is-comma in
+    let rest = rest-tail barsNothing (s f) (first f) _ _ (on-way f ∙ comma) closed in
+    let hit = is-credit _ _ _ (inside f) (opened f) (no-notice f) _ _ (head f) _ rest in
+    ap some (c .credited .ensures) ∙ sym (next-hit _ _ _ (inside f) _ hit) ∙ candidate f .candidates .inv .0
 
 returns-3 : tie.Need-returns-3 Inv-field μ-field Inv-candidates μ-candidates
 returns-3 c = sym (next-none _ _ _ (c .candidates-test .left)) ∙ c .before .candidates .inv .0

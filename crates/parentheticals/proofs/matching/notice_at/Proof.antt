@@ -35,7 +35,8 @@ enum-known-i-2 c = search needs
 returns-2 : tie.Need-returns-2
 unfolding noticeAt
 returns-2 c =
-    let first = sym (c .before .before .before .before .before .before .before .phrase-at .ensures) ∙ ap placeOf (c .before .before .before .before .before .enum-told .given .1) in
+    let first-place = c .before .before .before .before .before in
+    let first = sym (first-place .before .before .phrase-at .ensures) ∙ ap placeOf (first-place .enum-told .given .1) in
     let second = sym (c .before .before .before .phrase-at2 .ensures) ∙ ap placeOf (c .before .i2 .given .1) in
     rw (first, second)
 
@@ -45,7 +46,8 @@ enum-told-2 c = search needs
 returns-3 : tie.Need-returns-3
 unfolding noticeAt
 returns-3 c =
-    let first = sym (c .before .before .before .before .before .before .phrase-at .ensures) ∙ ap placeOf (c .before .before .before .before .enum-told .given .1) in
+    let first-place = c .before .before .before .before in
+    let first = sym (first-place .before .before .phrase-at .ensures) ∙ ap placeOf (first-place .enum-told .given .1) in
     let second = sym (c .before .before .phrase-at2 .ensures) ∙ ap placeOf (c .enum-told2 .given .1) in
     rw (first, second)
 

@@ -35,7 +35,8 @@ enum-told-2 c = search needs
 returns-2 : tie.Need-returns-2
 unfolding tailAt
 returns-2 c =
-    let first = sym (c .before .before .before .before .before .before .phrase-at .ensures) ∙ ap placeOf (c .before .before .before .before .d .given .1) in
+    let first-place = c .before .before .before .before in
+    let first = sym (first-place .before .before .phrase-at .ensures) ∙ ap placeOf (first-place .d .given .1) in
     let second = sym (c .before .before .date-at .ensures) ∙ ap placeOf (c .enum-told2 .given .1) in
     rw (first, second)
 
@@ -54,16 +55,20 @@ enum-told-3 c = search needs
 returns-3 : tie.Need-returns-3
 unfolding tailAt
 returns-3 c =
-    let first = sym (c .before .before .before .before .before .before .before .before .before .before .before .phrase-at .ensures) ∙ ap placeOf (c .before .before .before .before .before .before .before .before .before .d .given .1) in
-    let second = sym (c .before .before .before .before .before .before .before .date-at .ensures) ∙ ap placeOf (c .before .before .before .before .before .e .given .1) in
+    let first-place = c .before .before .before .before .before .before .before .before .before in
+    let first = sym (first-place .before .before .phrase-at .ensures) ∙ ap placeOf (first-place .d .given .1) in
+    let second-place = c .before .before .before .before .before in
+    let second = sym (second-place .before .before .date-at .ensures) ∙ ap placeOf (second-place .e .given .1) in
     let third = sym (c .before .before .phrase-at2 .ensures) ∙ ap placeOf (c .enum-told3 .given .1) in
     rw (first, second, third)
 
 returns-4 : tie.Need-returns-4
 unfolding tailAt
 returns-4 c =
-    let first = sym (c .before .before .before .before .before .before .before .before .before .before .before .before .phrase-at .ensures) ∙ ap placeOf (c .before .before .before .before .before .before .before .before .before .before .d .given .1) in
-    let second = sym (c .before .before .before .before .before .before .before .before .date-at .ensures) ∙ ap placeOf (c .before .before .before .before .before .before .e .given .1) in
+    let first-place = c .before .before .before .before .before .before .before .before .before .before in
+    let first = sym (first-place .before .before .phrase-at .ensures) ∙ ap placeOf (first-place .d .given .1) in
+    let second-place = c .before .before .before .before .before .before in
+    let second = sym (second-place .before .before .date-at .ensures) ∙ ap placeOf (second-place .e .given .1) in
     let third = sym (c .before .before .before .phrase-at2 .ensures) ∙ ap placeOf (c .before .end .given .1) in
     rw (first, second, third)
 
