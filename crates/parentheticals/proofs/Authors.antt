@@ -15,7 +15,7 @@ use Rattle.byte_rules.proofs.Laws.{credit-space-low}
 use Rattle.byte_rules.proofs.Characters.{char-fits, char-high}
 use Rattle.look.specs.Look.{holdsAt, byteAt}
 use Rattle.look.proofs.Laws.{byte-past}
-use Rattle.parentheticals.specs.Fields.{authorByte, authorLen, authorWithin, authorEnd}
+use Rattle.parentheticals.specs.Fields.{comma, authorByte, authorLen, authorWithin, authorEnd}
 use Rattle.parentheticals.proofs.FieldLaws.{len-past}
 use Rattle.parentheticals.proofs.Inside.{never}
 
@@ -43,7 +43,7 @@ module _ (bars : ℕ → Bool) (s : List ℕ) where
   past : (k i : ℕ) → length s ≤ i → authorWithin bars k s i ≡ none
   unfolding authorWithin
   past zero i h = refl
-  past (suc k) i h = rw (byte-past s i 44 h, ← len-past s i bars h)
+  past (suc k) i h = rw (byte-past s i comma h, ← len-past s i bars h)
 
   same : (j k i : ℕ) → length s ≤ i + j → length s ≤ i + k → authorWithin bars j s i ≡ authorWithin bars k s i
   unfolding authorWithin
@@ -60,11 +60,11 @@ module _ (bars : ℕ → Bool) (s : List ℕ) where
   -- ---- the ways from i
 
   module _ (i : ℕ) where
-    pub author-comma : byteAt s i 44 ≡ true → authorEnd bars s i ≡ some i
+    pub author-comma : byteAt s i comma ≡ true → authorEnd bars s i ≡ some i
     unfolding authorEnd authorWithin
     author-comma e = rw e
 
-    module _ (e : byteAt s i 44 ≡ false) where
+    module _ (e : byteAt s i comma ≡ false) where
       pub author-stop : authorLen bars s i ≡ 0 → authorEnd bars s i ≡ none
       unfolding authorEnd authorWithin
       author-stop z = rw (e, eq-eqb _ 0 z)
@@ -79,13 +79,14 @@ module _ (bars : ℕ → Bool) (s : List ℕ) where
 
   -- ---- the end is a `,`, from the start on
 
-  within-ends : (k i j : ℕ) → authorWithin bars k s i ≡ some j → (i ≤ j) × (byteAt s j 44 ≡ true)
+  within-ends : (k i j : ℕ) → authorWithin bars k s i ≡ some j → (i ≤ j) × (byteAt s j comma ≡ true)
   unfolding authorWithin
   within-ends zero i j e = never e
-  within-ends (suc k) i j e = go (byteAt s i 44) (eqb (authorLen bars s i) 0) refl refl (within-ends k (i + authorLen bars s i) j)
+  within-ends (suc k) i j e = go (byteAt s i comma) (eqb (authorLen bars s i) 0) refl refl (within-ends k (i + authorLen bars s i) j)
     where
-      go : (t u : Bool) → byteAt s i 44 ≡ t → eqb (authorLen bars s i) 0 ≡ u
-          → (authorWithin bars k s (i + authorLen bars s i) ≡ some j → (i + authorLen bars s i ≤ j) × (byteAt s j 44 ≡ true)) → (i ≤ j) × (byteAt s j 44 ≡ true)
+      go : (t u : Bool) → byteAt s i comma ≡ t → eqb (authorLen bars s i) 0 ≡ u
+          → (authorWithin bars k s (i + authorLen bars s i) ≡ some j → (i + authorLen bars s i ≤ j) × (byteAt s j comma ≡ true))
+          → (i ≤ j) × (byteAt s j comma ≡ true)
       go true u t v ih =
           let is : some i ≡ some j = rw t at e in
           let n : i ≡ j = cc in
@@ -93,7 +94,7 @@ module _ (bars : ℕ → Bool) (s : List ℕ) where
       go false true t v ih = never (rw (t, v) at e)
       go false false t v ih = let r = ih (rw (t, v) at e) in (omega arith, r .1)
 
-  pub author-ends : (i j : ℕ) → authorEnd bars s i ≡ some j → (i ≤ j) × (byteAt s j 44 ≡ true)
+  pub author-ends : (i j : ℕ) → authorEnd bars s i ≡ some j → (i ≤ j) × (byteAt s j comma ≡ true)
   unfolding authorEnd
   author-ends i j e = within-ends (suc (length s)) i j e
 
@@ -108,7 +109,7 @@ module _ (bars : ℕ → Bool) (s : List ℕ) where
   pub way-starts : (start : ℕ) → Way start start
   way-starts start j low high spaced = at-place j start (omega arith)
 
-  pub way-on : (start i n : ℕ) → byteAt s i 44 ≡ false → n ≡ authorLen bars s i → (n ≡ 0 → ⊥) → Way start i → Way start (i + n)
+  pub way-on : (start i n : ℕ) → byteAt s i comma ≡ false → n ≡ authorLen bars s i → (n ≡ 0 → ⊥) → Way start i → Way start (i + n)
   way-on start i n e is more way j low high spaced = before (leb j i) refl
     where
       -- no place inside a character is behind a space

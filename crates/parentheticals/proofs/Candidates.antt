@@ -13,7 +13,7 @@ use Rattle.byte_rules.specs.Classes.{isCreditSpace}
 use Rattle.look.proofs.Laws.{byte-test}
 use Rattle.scans.specs.Plain.{Lacks, Lacking}
 use Rattle.scans.proofs.Laws.{clash}
-use Rattle.parentheticals.specs.Fields.{phraseAt, authorEnd}
+use Rattle.parentheticals.specs.Fields.{lparen, phraseAt, authorEnd}
 use Rattle.parentheticals.specs.Matching.{headAt, noticeAt, tailAt, credited, noticed, restAt, creditAt, matchAt, firstOf, nextFrom, Passed, standsIn}
 use Rattle.parentheticals.specs.declared.Found.{Found}
 use Rattle.parentheticals.specs.declared.matching.Closing.{Closing}
@@ -45,28 +45,28 @@ module _ (bars : ℕ → Bool) (s : List ℕ) where
   -- ---- the candidate at i
 
   module _ (i : ℕ) (h : i < length s) where
-    pub no-opening : (getD s i 0 ≡ 40 → ⊥) → matchAt bars s i ≡ none
+    pub no-opening : (getD s i 0 ≡ lparen → ⊥) → matchAt bars s i ≡ none
     unfolding matchAt
-    no-opening n = rw (byte-test s i 40 h, ne-eqb (getD s i 0) 40 n)
+    no-opening n = rw (byte-test s i lparen h, ne-eqb (getD s i 0) lparen n)
 
-    module _ (p : getD s i 0 ≡ 40) where
+    module _ (p : getD s i 0 ≡ lparen) where
       pub is-notice : (k e : ℕ) → noticeAt s (i + 1) ≡ some (k, e) → matchAt bars s i ≡ some (noticed i k e)
       unfolding matchAt
-      is-notice k e n = rw (byte-test s i 40 h, eq-eqb (getD s i 0) 40 p, n)
+      is-notice k e n = rw (byte-test s i lparen h, eq-eqb (getD s i 0) lparen p, n)
 
       module _ (n : noticeAt s (i + 1) ≡ none) where
         pub no-head : headAt s (i + 1) ≡ none → matchAt bars s i ≡ none
         unfolding matchAt creditAt
-        no-head d = rw (byte-test s i 40 h, eq-eqb (getD s i 0) 40 p, n, d)
+        no-head d = rw (byte-test s i lparen h, eq-eqb (getD s i 0) lparen p, n, d)
 
         module _ (k a : ℕ) (d : headAt s (i + 1) ≡ some (k, a)) where
           pub no-rest : restAt bars s a ≡ none → matchAt bars s i ≡ none
           unfolding matchAt creditAt
-          no-rest e = rw (byte-test s i 40 h, eq-eqb (getD s i 0) 40 p, n, d, e)
+          no-rest e = rw (byte-test s i lparen h, eq-eqb (getD s i 0) lparen p, n, d, e)
 
           pub is-credit : (t : Closing) → restAt bars s a ≡ some t → matchAt bars s i ≡ some (credited i k a t)
           unfolding matchAt creditAt
-          is-credit t e = rw (byte-test s i 40 h, eq-eqb (getD s i 0) 40 p, n, d, e)
+          is-credit t e = rw (byte-test s i lparen h, eq-eqb (getD s i 0) lparen p, n, d, e)
 
 -- ---- the search for the first
 
@@ -104,17 +104,17 @@ module _ (bars : ℕ → Bool) (s : List ℕ) where
   pub passed-starts : (i : ℕ) → Passed bars s i i
   passed-starts i = record { same = refl; onward = le-refl i }
 
-  pub passed-one : {i r : ℕ} → Passed bars s i r → r < length s → (getD s r 0 ≡ 40 → ⊥) → Passed bars s i (r + 1)
+  pub passed-one : {i r : ℕ} → Passed bars s i r → r < length s → (getD s r 0 ≡ lparen → ⊥) → Passed bars s i (r + 1)
   passed-one {i} {r} p h n = record { same = p .same ∙ next-miss bars s r h (no-opening bars s r h n); onward = omega (arith, p .onward) }
 
-  passed-some : (k : ℕ) {i r : ℕ} → Passed bars s i r → r + k ≤ length s → Lacks s r k 40 → Passed bars s i (r + k)
+  passed-some : (k : ℕ) {i r : ℕ} → Passed bars s i r → r + k ≤ length s → Lacks s r k lparen → Passed bars s i (r + k)
   passed-some zero {i} {r} p h l = let z : r + 0 ≡ r = omega arith in rw z p
   passed-some (suc k) {i} {r} p h l =
       let z : r + k + 1 ≡ r + suc k = omega arith in
       let before = passed-some k p (omega arith) (λ j a. l j (omega arith)) in
-      rw z at (passed-one before (omega arith) (λ e. clash (l k (omega arith)) (eq-eqb (getD s (r + k) 0) 40 e)))
+      rw z at (passed-one before (omega arith) (λ e. clash (l k (omega arith)) (eq-eqb (getD s (r + k) 0) lparen e)))
 
-  pub passed-eight : {i r : ℕ} → Passed bars s i r → Lacking s r 40 → Passed bars s i (r + 8)
+  pub passed-eight : {i r : ℕ} → Passed bars s i r → Lacking s r lparen → Passed bars s i (r + 8)
   passed-eight p l = passed-some 8 p (l .within) (l .none)
 
 module _ (w s : List ℕ) (i : ℕ) where

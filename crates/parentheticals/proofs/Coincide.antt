@@ -6,18 +6,18 @@ use mathlib.Core.Bool.{Bool, true, false, cond}
 use mathlib.Core.List.{List, [], _∷_}
 use lib.Dec.{eqb}
 use lib.ListN.{getD}
+use Rattle.basics.specs.declared.Span.{Span}
 use Rattle.records.specs.Answer.{Answer}
 use Rattle.records.proofs.Answers.{coincide, readBack, refused-back}
 use Rattle.parentheticals.specs.Matching.{span}
 use Rattle.parentheticals.specs.Answers.{fresh, startedAnswer, stepAnswer, flaggedAnswer}
-use Rattle.parentheticals.specs.declared.Span.{Span}
 use Rattle.parentheticals.specs.declared.Parenthetical.{Parenthetical}
 use Rattle.parentheticals.specs.declared.Parenthetical.the-variants.{ContributedBy, RevisedBy, ProofShortenedBy}
 use Rattle.parentheticals.specs.declared.Parenthetical.the-variants.{ProofModificationDiscouraged, NewUsageDiscouraged}
 use Rattle.parentheticals.specs.declared.Started.{Started}
 use Rattle.parentheticals.specs.declared.Started.the-variants as started
-use Rattle.parentheticals.specs.declared.Step.{Step}
-use Rattle.parentheticals.specs.declared.Step.the-variants as step
+use Rattle.parentheticals.specs.declared.NextParenthetical.{NextParenthetical}
+use Rattle.parentheticals.specs.declared.NextParenthetical.the-variants as step
 use Rattle.parentheticals.specs.declared.Flagged.{Flagged}
 use Rattle.parentheticals.specs.declared.Flagged.the-variants as flagged
 
@@ -43,7 +43,7 @@ itemBack k author date =
     (cond (eqb k 3) (ProofShortenedBy author date)
     (cond (eqb k 4) ProofModificationDiscouraged NewUsageDiscouraged)))
 
-stepBack : List ℕ → Step
+stepBack : List ℕ → NextParenthetical
 stepBack [] = step.End
 stepBack (k ∷ w) =
     step.Next
@@ -52,7 +52,7 @@ stepBack (k ∷ w) =
       item = itemBack k (span (getD w 2 0) (getD w 3 0)) (span (getD w 4 0) (getD w 5 0));
     })
 
-step-back : (r : Step) → readBack stepBack step.Refused (stepAnswer r) ≡ r
+step-back : (r : NextParenthetical) → readBack stepBack step.Refused (stepAnswer r) ≡ r
 unfolding stepBack itemBack
 step-back (step.Next f) = go (f .whole) (f .item)
   where
@@ -66,7 +66,7 @@ step-back (step.Next f) = go (f .whole) (f .item)
 step-back step.End = refl
 step-back (step.Refused r) = refused-back stepBack step.Refused r
 
-pub step-one : (a : Answer) (x y : Step) → stepAnswer x ≡ a → stepAnswer y ≡ a → x ≡ y
+pub step-one : (a : Answer) (x y : NextParenthetical) → stepAnswer x ≡ a → stepAnswer y ≡ a → x ≡ y
 step-one = coincide stepAnswer (readBack stepBack step.Refused) step-back
 
 -- ---- the flags

@@ -2,7 +2,7 @@
 -- Assumes nothing.
 use Prim.Native.Nat.{ℕ, suc, _+_, _-_, _<_, _≤_}
 use mathlib.Core.Path.{_≡_, refl}
-use mathlib.Core.List.{List}
+use mathlib.Core.List.{List, _∷_}
 use mathlib.Core.Bool.{Bool, true, false, _&&_}
 use mathlib.Core.Option.{none, some}
 use native.Mathlib.Numerals.{add-one}
@@ -16,7 +16,8 @@ use Rattle.byte_rules.specs.Utf8.{charLen}
 use Rattle.byte_rules.proofs.Laws.{nothing-barred}
 use Rattle.look.specs.Look.{byteAt}
 use Rattle.look.proofs.Laws.{holds-in, holds-past}
-use Rattle.parentheticals.specs.Fields.{spaceRun, spaceEnd, spacesAt, signAt, phraseAt, fits, pictureAt, authorStart, authorByte, authorLen}
+use Rattle.parentheticals.specs.Fields.{lparen, comma, spaceRun, spaceEnd, spacesAt, signAt, phraseAt, fits, pictureAt}
+use Rattle.parentheticals.specs.Fields.{authorStart, authorByte, authorLen}
 
 -- ---- spaces
 
@@ -73,6 +74,16 @@ module _ (w s : List ℕ) (k i : ℕ) where
     unfolding phraseAt
     phrase-stop e = rw (drop-cons w k 0 h, e)
 
+-- a phrase that begins with `(`
+module _ (w s : List ℕ) (i : ℕ) where
+  pub opened-here : byteAt s i lparen ≡ true → phraseAt w s (i + 1) ≡ phraseAt (lparen ∷ w) s i
+  unfolding phraseAt signAt
+  opened-here e = rw e
+
+  pub opened-not : byteAt s i lparen ≡ false → none ≡ phraseAt (lparen ∷ w) s i
+  unfolding phraseAt signAt
+  opened-not e = rw e
+
 -- ---- pictures
 
 module _ (p b : ℕ) where
@@ -121,11 +132,11 @@ module _ (s : List ℕ) (i : ℕ) where
   author-none e = rw e
 
   module _ (e : ℕ) (spaces : spacesAt s i ≡ some e) where
-    pub author-here : byteAt s e 44 ≡ false → some e ≡ authorStart s i
+    pub author-here : byteAt s e comma ≡ false → some e ≡ authorStart s i
     unfolding authorStart
     author-here f = rw (spaces, f)
 
-    module _ (f : byteAt s e 44 ≡ true) where
+    module _ (f : byteAt s e comma ≡ true) where
       pub author-back : i + 1 < e → some (e - 1) ≡ authorStart s i
       unfolding authorStart
       author-back h = rw (spaces, f, lt-ltb (i + 1) e h)

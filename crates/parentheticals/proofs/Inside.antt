@@ -16,7 +16,7 @@ use Rattle.byte_rules.specs.Classes.{isCreditSpace}
 use Rattle.byte_rules.proofs.Laws.{comma-no-space}
 use Rattle.look.specs.Look.{holdsAt, byteAt}
 use Rattle.look.proofs.Laws.{holds-within, byte-within, byte-is}
-use Rattle.parentheticals.specs.Fields.{spaceRun, spaceEnd, spacesAt, signAt, phraseAt, fits, pictureAt, dateAt, authorStart}
+use Rattle.parentheticals.specs.Fields.{comma, spaceRun, spaceEnd, spacesAt, signAt, phraseAt, fits, pictureAt, dateAt, authorStart}
 
 pub never : {A B : Type 0} {b : B} → none ≡ some b → A
 never e = absurd (differ cc)
@@ -126,14 +126,14 @@ pub record Begins (s : List ℕ) (i a : ℕ) : Type 0 where
   pub after : i < a
   pub inside : a ≤ length s
   pub spaced : isCreditSpace (getD s (a - 1) 0) ≡ true
-  pub kept : byteAt s a 44 ≡ false
+  pub kept : byteAt s a comma ≡ false
 
 -- a space is no `,`
-no-comma : (s : List ℕ) (i : ℕ) → isCreditSpace (getD s i 0) ≡ true → byteAt s i 44 ≡ false
-no-comma s i e = go (byteAt s i 44) refl
+no-comma : (s : List ℕ) (i : ℕ) → isCreditSpace (getD s i 0) ≡ true → byteAt s i comma ≡ false
+no-comma s i e = go (byteAt s i comma) refl
   where
-    go : (t : Bool) → byteAt s i 44 ≡ t → byteAt s i 44 ≡ false
-    go true t = absurd (false≢true (sym comma-no-space ∙ (rw (byte-is s i 44 t) at e)))
+    go : (t : Bool) → byteAt s i comma ≡ t → byteAt s i comma ≡ false
+    go true t = absurd (false≢true (sym comma-no-space ∙ (rw (byte-is s i comma t) at e)))
     go false t = t
 
 pub start-begins : (s : List ℕ) (i a : ℕ) → i ≤ length s → authorStart s i ≡ some a → Begins s i a
@@ -151,7 +151,7 @@ start-begins s i a le e = spaces (spacesAt s i) refl
           kept = no-comma s a (spaces-spaces s i k q a (omega arith) (omega arith));
         }
 
-    here : (k : ℕ) → spacesAt s i ≡ some k → some k ≡ some a → byteAt s k 44 ≡ false → Begins s i a
+    here : (k : ℕ) → spacesAt s i ≡ some k → some k ≡ some a → byteAt s k comma ≡ false → Begins s i a
     here k q f u =
         let n : k ≡ a = cc in
         let r = spaces-inside s i k le q in
@@ -162,11 +162,11 @@ start-begins s i a le e = spaces (spacesAt s i) refl
           kept = rw n at u;
         }
 
-    comma : (k : ℕ) (t u : Bool) → spacesAt s i ≡ some k → byteAt s k 44 ≡ t → ltb (i + 1) k ≡ u → Begins s i a
-    comma k true true q t u = back k q (rw (q, t, u) at e) (ltb-true (i + 1) k u)
-    comma k true false q t u = never (rw (q, t, u) at e)
-    comma k false u q t v = here k q (rw (q, t) at e) t
+    at-comma : (k : ℕ) (t u : Bool) → spacesAt s i ≡ some k → byteAt s k comma ≡ t → ltb (i + 1) k ≡ u → Begins s i a
+    at-comma k true true q t u = back k q (rw (q, t, u) at e) (ltb-true (i + 1) k u)
+    at-comma k true false q t u = never (rw (q, t, u) at e)
+    at-comma k false u q t v = here k q (rw (q, t) at e) t
 
     spaces : (p : Option ℕ) → spacesAt s i ≡ p → Begins s i a
-    spaces (some k) q = comma k (byteAt s k 44) (ltb (i + 1) k) q refl refl
+    spaces (some k) q = at-comma k (byteAt s k comma) (ltb (i + 1) k) q refl refl
     spaces none q = never (rw q at e)

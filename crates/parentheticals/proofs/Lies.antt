@@ -10,13 +10,14 @@ use lib.Dec.{eqb}
 use borrow.Author.Tests.{eqb-true, eqb-false}
 use lib.ListN.{length}
 use Rattle.basics.specs.Choice.{orElse}
+use Rattle.basics.specs.declared.Span.{Span}
 use Rattle.byte_rules.specs.Text.{bytes}
 use Rattle.look.specs.Look.{byteAt}
 use Rattle.look.proofs.Laws.{byte-within}
-use Rattle.parentheticals.specs.Fields.{_>>=_, phraseAt, dateAt, authorEnd}
+use Rattle.parentheticals.specs.Fields.{lparen, comma, _>>=_, phraseAt, dateAt, authorEnd}
+use Rattle.parentheticals.specs.Matching.{contributedBy, revisedBy, proofShortenedBy, proofModification, newUsage}
 use Rattle.parentheticals.specs.Matching.{ofKind, authorAfter, headAt, noticeAt, closing, tailAt, creditOf, noticeOf, credited, noticed}
 use Rattle.parentheticals.specs.Matching.{restAt, creditAt, matchAt, firstOf, nextFrom}
-use Rattle.parentheticals.specs.declared.Span.{Span}
 use Rattle.parentheticals.specs.declared.Parenthetical.{Parenthetical}
 use Rattle.parentheticals.specs.declared.Parenthetical.the-variants.{ContributedBy, RevisedBy, ProofShortenedBy}
 use Rattle.parentheticals.specs.declared.Parenthetical.the-variants.{ProofModificationDiscouraged, NewUsageDiscouraged}
@@ -52,9 +53,9 @@ module _ (s : List ℕ) (i : ℕ) (h : i ≤ length s) where
   pub head-begins : (k a : ℕ) → headAt s i ≡ some (k, a) → Begins s i a
   unfolding headAt
   head-begins k a e =
-      kinds {P = Begins s i} 1 k a _ _ (after-begins (bytes "Contributed by"))
-      (kinds {P = Begins s i} 2 k a _ _ (after-begins (bytes "Revised by"))
-      (last (authorAfter (bytes "Proof shortened by") s i) (after-begins (bytes "Proof shortened by")))) e
+      kinds {P = Begins s i} 1 k a _ _ (after-begins contributedBy)
+      (kinds {P = Begins s i} 2 k a _ _ (after-begins revisedBy)
+      (last (authorAfter proofShortenedBy s i) (after-begins proofShortenedBy))) e
     where
       last : (p : Option ℕ) → ((b : ℕ) → p ≡ some b → Begins s i b) → ofKind 3 p ≡ some (k, a) → Begins s i a
       last none f e = never e
@@ -66,14 +67,14 @@ module _ (s : List ℕ) (i : ℕ) (h : i ≤ length s) where
   notice-inside : (k j : ℕ) → noticeAt s i ≡ some (k, j) → Ends j
   unfolding noticeAt
   notice-inside k j e =
-      kinds {P = Ends} 4 k j _ _ (λ b q. let r = phrase-inside (bytes "Proof modification is discouraged.)") s i b h q in (omega arith, r .1))
-      (last (phraseAt (bytes "New usage is discouraged.)") s i) refl) e
+      kinds {P = Ends} 4 k j _ _ (λ b q. let r = phrase-inside proofModification s i b h q in (omega arith, r .1))
+      (last (phraseAt newUsage s i) refl) e
     where
-      last : (p : Option ℕ) → phraseAt (bytes "New usage is discouraged.)") s i ≡ p → ofKind 5 p ≡ some (k, j) → Ends j
+      last : (p : Option ℕ) → phraseAt newUsage s i ≡ p → ofKind 5 p ≡ some (k, j) → Ends j
       last none q e = never e
       last (some b) q e =
           let same : b ≡ j = second e in
-          let r = phrase-inside (bytes "New usage is discouraged.)") s i b h q in
+          let r = phrase-inside newUsage s i b h q in
           (omega arith, omega arith)
 
 -- ---- what closes a credit
@@ -155,7 +156,7 @@ module _ (bars : ℕ → Bool) (s : List ℕ) where
   credit-lies i f lt e = head (headAt s (i + 1)) refl
     where
       -- the author's end is a `,`, and none stands at its start
-      apart : (a b : ℕ) → Begins s (i + 1) a → a ≤ b → byteAt s b 44 ≡ true → (t : Bool) → eqb a b ≡ t → a < b
+      apart : (a b : ℕ) → Begins s (i + 1) a → a ≤ b → byteAt s b comma ≡ true → (t : Bool) → eqb a b ≡ t → a < b
       apart a b g le q true t = absurd (false≢true (sym (g .kept) ∙ (rw (sym (eqb-true a b t)) at q)))
       apart a b g le q false t = let n : a ≡ b → ⊥ = eqb-false a b t in omega arith
 
@@ -180,7 +181,7 @@ module _ (bars : ℕ → Bool) (s : List ℕ) where
           → ((p >>= (λ b. tailAt s b)) >>= (λ t. some (credited i k a t))) ≡ some f → Lies i (length s) f
       author k a (some b) q g d =
           let r = author-ends bars s a b q in
-          tail k a b (tailAt s b) refl g (apart a b g (r .0) (r .1) (eqb a b) refl) (byte-within s b 44 (r .1)) d
+          tail k a b (tailAt s b) refl g (apart a b g (r .0) (r .1) (eqb a b) refl) (byte-within s b comma (r .1)) d
       author k a none q g d = never d
 
       head : (p : Option (ℕ × ℕ)) → headAt s (i + 1) ≡ p → Lies i (length s) f
@@ -189,7 +190,7 @@ module _ (bars : ℕ → Bool) (s : List ℕ) where
 
   match-lies : (i : ℕ) (f : Found) → matchAt bars s i ≡ some f → Lies i (length s) f
   unfolding matchAt
-  match-lies i f e = opening (byteAt s i 40) refl
+  match-lies i f e = opening (byteAt s i lparen) refl
     where
       notice : (p : Option (ℕ × ℕ)) → noticeAt s (i + 1) ≡ p → i < length s
           → orElse (p >>= (λ n. some (noticed i (n .0) (n .1)))) (creditAt bars s i) ≡ some f → Lies i (length s) f
@@ -199,8 +200,8 @@ module _ (bars : ℕ → Bool) (s : List ℕ) where
           rw (sym same) (record { behind = omega arith; onward = omega (arith, r .0); inside = r .1; fields = notice-order _ (n .0) })
       notice none q lt d = credit-lies i f lt d
 
-      opening : (t : Bool) → byteAt s i 40 ≡ t → Lies i (length s) f
-      opening true t = notice (noticeAt s (i + 1)) refl (byte-within s i 40 t) (rw t at e)
+      opening : (t : Bool) → byteAt s i lparen ≡ t → Lies i (length s) f
+      opening true t = notice (noticeAt s (i + 1)) refl (byte-within s i lparen t) (rw t at e)
       opening false t = never (rw t at e)
 
   first-lies : (k i : ℕ) (f : Found) → firstOf (matchAt bars s) k i ≡ some f → Lies i (length s) f

@@ -8,6 +8,7 @@ use mathlib.Core.Option.{Option, none, some}
 use native.Mathlib.Omega.{arith}
 use native.Mathlib.Nat.{le-refl}
 use lib.ListN.{length, take}
+use Rattle.basics.specs.declared.Span.{Span}
 use Rattle.byte_rules.specs.Reading.{rust}
 use Rattle.records.specs.Answer.{longest}
 use Rattle.records.specs.Produced.{grow}
@@ -15,7 +16,6 @@ use Rattle.records.proofs.ProducedLaws.{produced-step}
 use Rattle.records.proofs.Laying.{Laying}
 use Rattle.parentheticals.specs.Matching.{nextFrom, stepFrom, bytesLeft, matchesFrom}
 use Rattle.parentheticals.specs.Records.{authorOf, dateOf, recordOf, recordWidth, recordsOf, InWords}
-use Rattle.parentheticals.specs.declared.Span.{Span}
 use Rattle.parentheticals.specs.declared.Parenthetical.{Parenthetical}
 use Rattle.parentheticals.specs.declared.Parenthetical.the-variants.{ContributedBy, RevisedBy, ProofShortenedBy}
 use Rattle.parentheticals.specs.declared.Parenthetical.the-variants.{ProofModificationDiscouraged, NewUsageDiscouraged}

@@ -14,8 +14,9 @@ use Rattle.byte_rules.proofs.Characters.{char-same}
 use Rattle.look.specs.Look.{holdsAt, byteAt}
 use Rattle.look.proofs.Laws.{holds-within, byte-within}
 use Rattle.look.proofs.Alike.{holds-same, byte-same, same-part, Alike, alike-at, alike-here, alike-on, drop-same, cut-alike}
-use Rattle.parentheticals.specs.Fields.{_>>=_, spacesAt, signAt, phraseAt, fits, pictureAt, dateAt}
+use Rattle.parentheticals.specs.Fields.{lparen, comma, _>>=_, spacesAt, signAt, phraseAt, fits, pictureAt, dateAt}
 use Rattle.parentheticals.specs.Fields.{authorStart, authorByte, authorLen, authorWithin, authorEnd}
+use Rattle.parentheticals.specs.Matching.{contributedBy, revisedBy, proofShortenedBy, proofModification, newUsage}
 use Rattle.parentheticals.specs.Matching.{authorAfter, headAt, noticeAt, tailAt, restAt, creditAt, matchAt, firstOf, nextFrom, matchesFrom}
 use Rattle.parentheticals.specs.Records.{parentheticalsOf}
 use Rattle.parentheticals.specs.declared.Found.{Found}
@@ -63,7 +64,7 @@ start-same : {s t : List ℕ} {i : ℕ} → Alike s t i → authorStart s i ≡ 
 unfolding authorStart
 start-same {s} {t} {i} g =
     bind-same _ _ _ _ (spaces-same g)
-    (λ e q. let r = spaces-inside s i e (g .fits) q in rw (byte-same (alike-at g e (omega arith)) 44))
+    (λ e q. let r = spaces-inside s i e (g .fits) q in rw (byte-same (alike-at g e (omega arith)) comma))
 
 module _ (bars : ℕ → Bool) where
   len-same : {s t : List ℕ} {i : ℕ} → Alike s t i → authorLen bars s i ≡ authorLen bars t i
@@ -75,7 +76,7 @@ module _ (bars : ℕ → Bool) where
   within-same zero g = refl
   within-same (suc k) {s} {t} {i} g =
       let rest = within-same k (alike-on g (i + authorLen bars s i) (omega arith) (omega (arith, len-fits bars s i, g .fits))) in
-      rw (← byte-same (alike-here g) 44, ← len-same g, ← rest)
+      rw (← byte-same (alike-here g) comma, ← len-same g, ← rest)
 
   end-same : {s t : List ℕ} {i : ℕ} → Alike s t i → authorEnd bars s i ≡ authorEnd bars t i
   unfolding authorEnd
@@ -90,11 +91,11 @@ after-same w {s} {t} {i} g =
 
 head-same : {s t : List ℕ} {i : ℕ} → Alike s t i → headAt s i ≡ headAt t i
 unfolding headAt
-head-same g = rw (after-same (bytes "Contributed by") g, after-same (bytes "Revised by") g, after-same (bytes "Proof shortened by") g)
+head-same g = rw (after-same contributedBy g, after-same revisedBy g, after-same proofShortenedBy g)
 
 notice-same : {s t : List ℕ} {i : ℕ} → Alike s t i → noticeAt s i ≡ noticeAt t i
 unfolding noticeAt
-notice-same g = rw (phrase-same (bytes "Proof modification is discouraged.)") g, phrase-same (bytes "New usage is discouraged.)") g)
+notice-same g = rw (phrase-same proofModification g, phrase-same newUsage g)
 
 tail-same : {s t : List ℕ} {b : ℕ} → Alike s t b → tailAt s b ≡ tailAt t b
 unfolding tailAt
@@ -111,7 +112,7 @@ module _ (bars : ℕ → Bool) {s t : List ℕ} where
   unfolding restAt
   rest-same {a} g =
       bind-same _ _ _ _ (end-same bars g)
-      (λ b e. let r = author-ends bars s a b e in tail-same (alike-on g b (r .0) (omega (arith, byte-within s b 44 (r .1)))))
+      (λ b e. let r = author-ends bars s a b e in tail-same (alike-on g b (r .0) (omega (arith, byte-within s b comma (r .1)))))
 
   credit-same : (i : ℕ) → Alike s t (i + 1) → creditAt bars s i ≡ creditAt bars t i
   unfolding creditAt
@@ -122,13 +123,13 @@ module _ (bars : ℕ → Bool) {s t : List ℕ} where
 
   match-same : (i : ℕ) → Alike s t i → matchAt bars s i ≡ matchAt bars t i
   unfolding matchAt
-  match-same i g = go (byteAt s i 40) refl
+  match-same i g = go (byteAt s i lparen) refl
     where
-      go : (u : Bool) → byteAt s i 40 ≡ u → matchAt bars s i ≡ matchAt bars t i
+      go : (u : Bool) → byteAt s i lparen ≡ u → matchAt bars s i ≡ matchAt bars t i
       go true u =
-          let g′ = alike-on g (i + 1) (omega arith) (omega (arith, byte-within s i 40 u)) in
-          rw (← byte-same (alike-here g) 40, u, notice-same g′, credit-same i g′)
-      go false u = rw (← byte-same (alike-here g) 40, u)
+          let g′ = alike-on g (i + 1) (omega arith) (omega (arith, byte-within s i lparen u)) in
+          rw (← byte-same (alike-here g) lparen, u, notice-same g′, credit-same i g′)
+      go false u = rw (← byte-same (alike-here g) lparen, u)
 
   first-same : (k i : ℕ) → i + k ≤ length s → Alike s t i → firstOf (matchAt bars s) k i ≡ firstOf (matchAt bars t) k i
   unfolding firstOf

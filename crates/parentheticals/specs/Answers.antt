@@ -4,17 +4,17 @@ use mathlib.Core.List.{List, [], _∷_}
 use mathlib.Core.Bool.{Bool, true, false}
 use mathlib.Core.Option.{Option, none, some}
 use lib.ListN.{length, take}
-use Rattle.byte_rules.specs.Text.{bytes}
 use Rattle.byte_rules.specs.Reading.{Reading}
 use Rattle.records.specs.Answer.{Answer, given, unless, refusalAnswer, lengthRefusal, spanRefusal, stateRefusal}
-use Rattle.parentheticals.specs.Matching.{nextFrom, standsIn}
+use Rattle.parentheticals.specs.Fields.{lparen}
+use Rattle.parentheticals.specs.Matching.{proofModification, newUsage, nextFrom, standsIn}
 use Rattle.parentheticals.specs.Records.{recordOf}
 use Rattle.parentheticals.specs.declared.Found.{Found}
 use Rattle.parentheticals.specs.declared.ParentheticalState.{ParentheticalState}
 use Rattle.parentheticals.specs.declared.Started.{Started}
 use Rattle.parentheticals.specs.declared.Started.the-variants as started
-use Rattle.parentheticals.specs.declared.Step.{Step}
-use Rattle.parentheticals.specs.declared.Step.the-variants as step
+use Rattle.parentheticals.specs.declared.NextParenthetical.{NextParenthetical}
+use Rattle.parentheticals.specs.declared.NextParenthetical.the-variants as step
 use Rattle.parentheticals.specs.declared.Discouragements.{Discouragements}
 use Rattle.parentheticals.specs.declared.Flagged.{Flagged}
 use Rattle.parentheticals.specs.declared.Flagged.the-variants as flagged
@@ -35,13 +35,13 @@ startAnswer buf start end = unless (spanRefusal (length buf) start end) (λ a. a
 -- ---- the step from a state
 
 -- 0 with the seven words of the parenthetical, or with none at the end; or 1, 3
-abbrev pub stepAnswer : Step → Answer
+abbrev pub stepAnswer : NextParenthetical → Answer
 stepAnswer (step.Next f) = given (recordOf f)
 stepAnswer step.End = given []
 stepAnswer (step.Refused r) = refusalAnswer r
 
 -- what the search found, as a step
-abbrev pub stepOf : Option Found → Step
+abbrev pub stepOf : Option Found → NextParenthetical
 stepOf none = step.End
 stepOf (some f) = step.Next f
 
@@ -79,8 +79,8 @@ flaggedAnswer (flagged.Refused r) = refusalAnswer r
 abbrev pub discouragementsOf : List ℕ → Discouragements
 discouragementsOf buf =
     record {
-      «modification_discouraged» = standsIn (bytes "(Proof modification is discouraged.)") buf 0;
-      «usage_discouraged» = standsIn (bytes "(New usage is discouraged.)") buf 0;
+      «modification_discouraged» = standsIn (lparen ∷ proofModification) buf 0;
+      «usage_discouraged» = standsIn (lparen ∷ newUsage) buf 0;
     }
 
 unfoldable pub discouragementsAnswer : List ℕ → Answer

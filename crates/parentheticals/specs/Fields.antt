@@ -7,12 +7,19 @@ use mathlib.Core.Option.{Option, none, some}
 use lib.ListN.{length, drop}
 use lib.Dec.{ltb, eqb}
 use Rattle.basics.specs.Choice.{orElse}
+use Rattle.basics.specs.declared.Place.{Place}
+use Rattle.basics.specs.declared.Place.the-variants.{At, Nowhere}
 use Rattle.byte_rules.specs.Text.{bytes}
 use Rattle.byte_rules.specs.Classes.{isCreditSpace, isDigit, isCapital, isSmall, isAuthorByte}
 use Rattle.byte_rules.specs.Utf8.{charLen}
 use Rattle.look.specs.Look.{holdsAt, byteAt}
-use Rattle.parentheticals.specs.declared.fields.Place.{Place}
-use Rattle.parentheticals.specs.declared.fields.Place.the-variants.{At, Nowhere}
+
+-- the bytes that are spoken of by name
+abbrev pub lparen : ℕ
+lparen = 40
+
+abbrev pub comma : ℕ
+comma = 44
 
 -- the place that a matcher of the code answers
 abbrev pub placeOf : Place → Option ℕ
@@ -65,7 +72,7 @@ dateAt s i = orElse (pictureAt (bytes "0-Aaa-0000") s i) (pictureAt (bytes "00-A
 
 -- where an author starts: the spaces before take all they can while the author keeps one byte, so before a `,` they leave it the last of them
 unfoldable pub authorStart : List ℕ → ℕ → Option ℕ
-authorStart s i = spacesAt s i >>= (λ e. cond (byteAt s e 44) (cond (ltb (i + 1) e) (some (e - 1)) none) (some e))
+authorStart s i = spacesAt s i >>= (λ e. cond (byteAt s e comma) (cond (ltb (i + 1) e) (some (e - 1)) none) (some e))
 
 -- by the bytes that the reading bars from an author's field
 module _ (bars : ℕ → Bool) where
@@ -81,7 +88,7 @@ module _ (bars : ℕ → Bool) where
   authorWithin zero s i = none
   authorWithin (suc k) s i =
       let rest = authorWithin k s (i + authorLen s i) in
-      cond (byteAt s i 44) (some i) (cond (eqb (authorLen s i) 0) none rest)
+      cond (byteAt s i comma) (some i) (cond (eqb (authorLen s i) 0) none rest)
 
   unfoldable pub authorEnd : List ℕ → ℕ → Option ℕ
   authorEnd s i = authorWithin (suc (length s)) s i

@@ -7,11 +7,11 @@ use mathlib.Core.Option.{Option, none, some}
 use lib.ListN.{length}
 use lib.Dec.{eqb}
 use Rattle.basics.specs.Choice.{orElse}
+use Rattle.basics.specs.declared.Span.{Span}
 use Rattle.byte_rules.specs.Text.{bytes}
 use Rattle.look.specs.Look.{byteAt}
 use Rattle.records.specs.Produced.{produced}
-use Rattle.parentheticals.specs.Fields.{_>>=_, phraseAt, dateAt, authorStart, authorEnd}
-use Rattle.parentheticals.specs.declared.Span.{Span}
+use Rattle.parentheticals.specs.Fields.{lparen, _>>=_, phraseAt, dateAt, authorStart, authorEnd}
 use Rattle.parentheticals.specs.declared.Parenthetical.{Parenthetical}
 use Rattle.parentheticals.specs.declared.Parenthetical.the-variants.{ContributedBy, RevisedBy, ProofShortenedBy}
 use Rattle.parentheticals.specs.declared.Parenthetical.the-variants.{ProofModificationDiscouraged, NewUsageDiscouraged}
@@ -40,6 +40,23 @@ foundOf Nothing = none
 abbrev pub span : ℕ → ℕ → Span
 span a e = record { start = a; end = e }
 
+-- ---- the words behind the `(`, in the enum's order
+
+abbrev pub contributedBy : List ℕ
+contributedBy = bytes "Contributed by"
+
+abbrev pub revisedBy : List ℕ
+revisedBy = bytes "Revised by"
+
+abbrev pub proofShortenedBy : List ℕ
+proofShortenedBy = bytes "Proof shortened by"
+
+abbrev pub proofModification : List ℕ
+proofModification = bytes "Proof modification is discouraged.)"
+
+abbrev pub newUsage : List ℕ
+newUsage = bytes "New usage is discouraged.)"
+
 -- ---- behind the `(`: a kind, and the place that follows
 
 abbrev pub ofKind : ℕ → Option ℕ → Option (ℕ × ℕ)
@@ -52,15 +69,15 @@ authorAfter w s i = phraseAt w s i >>= (λ j. authorStart s j)
 -- of a credit, with its author's start
 unfoldable pub headAt : List ℕ → ℕ → Option (ℕ × ℕ)
 headAt s i =
-    orElse (ofKind 1 (authorAfter (bytes "Contributed by") s i))
-    (orElse (ofKind 2 (authorAfter (bytes "Revised by") s i))
-    (ofKind 3 (authorAfter (bytes "Proof shortened by") s i)))
+    orElse (ofKind 1 (authorAfter contributedBy s i))
+    (orElse (ofKind 2 (authorAfter revisedBy s i))
+    (ofKind 3 (authorAfter proofShortenedBy s i)))
 
 -- of a notice, with its end
 unfoldable pub noticeAt : List ℕ → ℕ → Option (ℕ × ℕ)
 noticeAt s i =
-    orElse (ofKind 4 (phraseAt (bytes "Proof modification is discouraged.)") s i))
-    (ofKind 5 (phraseAt (bytes "New usage is discouraged.)") s i))
+    orElse (ofKind 4 (phraseAt proofModification s i))
+    (ofKind 5 (phraseAt newUsage s i))
 
 -- ---- from the author on
 
@@ -97,7 +114,7 @@ module _ (bars : ℕ → Bool) (s : List ℕ) where
 
   -- what matches at i: a notice or a credit
   unfoldable pub matchAt : ℕ → Option Found
-  matchAt i = cond (byteAt s i 40) (orElse (noticeAt s (i + 1) >>= (λ n. some (noticed i (n .0) (n .1)))) (creditAt i)) none
+  matchAt i = cond (byteAt s i lparen) (orElse (noticeAt s (i + 1) >>= (λ n. some (noticed i (n .0) (n .1)))) (creditAt i)) none
 
 -- ---- the leftmost
 

@@ -2,11 +2,11 @@
 use Prim.Native.Nat.{ℕ, _≤_}
 use mathlib.Core.List.{List, [], _∷_, map}
 use lib.ListN.{length, take}
+use Rattle.basics.specs.declared.Span.{Span}
 use Rattle.byte_rules.specs.Reading.{Reading}
 use Rattle.records.specs.Answer.{Answer, longest, spanRefusal}
 use Rattle.records.specs.Records.{listAnswer, listLeft}
 use Rattle.parentheticals.specs.Matching.{span, matchesFrom}
-use Rattle.parentheticals.specs.declared.Span.{Span}
 use Rattle.parentheticals.specs.declared.Parenthetical.{Parenthetical}
 use Rattle.parentheticals.specs.declared.Parenthetical.the-variants.{ContributedBy, RevisedBy, ProofShortenedBy}
 use Rattle.parentheticals.specs.declared.Parenthetical.the-variants.{ProofModificationDiscouraged, NewUsageDiscouraged}

@@ -2,6 +2,7 @@
 ghost use mathlib.Core.Path.{_≡_};
 ghost use Rattle.byte_rules.specs.Reading.{rust};
 ghost use Rattle.parentheticals.specs.Fields.{placeOf, spaceEnd, spacesAt, signAt, phraseAt, fits, pictureAt, dateAt, authorStart, authorLen};
+use basics::Place;
 use byte_rules::is_author_byte;
 use byte_rules::is_capital;
 use byte_rules::is_credit_space;
@@ -9,12 +10,6 @@ use byte_rules::is_digit;
 use byte_rules::is_small;
 use byte_rules::utf8::char_len;
 use look::byte_at;
-
-// A place past what was matched.
-pub enum Place {
-    At(usize),
-    Nowhere,
-}
 
 // The end of the spaces at `at`.
 fn space_end(text: &[u8], at: usize) -> usize

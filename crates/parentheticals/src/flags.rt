@@ -1,20 +1,36 @@
 // The two notices, anywhere in a buffer.
 ghost use mathlib.Core.Path.{_≡_};
+ghost use mathlib.Core.List.{_∷_};
+ghost use Rattle.parentheticals.specs.Fields.{placeOf, phraseAt, lparen};
 ghost use Rattle.parentheticals.specs.Matching.{standsIn};
 ghost use Rattle.parentheticals.specs.Answers.{flaggedAnswer, discouragementsAnswer};
 use crate::Discouragements;
 use crate::Flagged;
-use crate::fields::Place;
 use crate::fields::phrase_at;
-use records::Refusal;
+use crate::matching::NEW_USAGE;
+use crate::matching::PROOF_MODIFICATION;
+use basics::Place;
+use look::byte_at;
+use records::Checked;
+use records::check_length;
 
-// Whether the phrase stands anywhere.
-fn stands_in(phrase: &[u8], text: &[u8]) -> bool
-    ensures { λ r. ⌜ r ≡ standsIn (now (phrase .entry)) (now (text .entry)) 0 ⌝ }
+// A `(`, and the words behind it.
+fn opened_at(words: &[u8], text: &[u8], at: usize) -> Place
+    ensures { λ r. ⌜ placeOf r ≡ phraseAt (lparen ∷ now (words .entry)) (now (text .entry)) at ⌝ }
+{
+    if byte_at(text, at, b'(') {
+        return phrase_at(words, text, at + 1);
+    }
+    Place::Nowhere
+}
+
+// Whether the notice with these words stands anywhere.
+fn stands_in(words: &[u8], text: &[u8]) -> bool
+    ensures { λ r. ⌜ r ≡ standsIn (lparen ∷ now (words .entry)) (now (text .entry)) 0 ⌝ }
 {
     let mut i: usize = 0;
     while i < text.len() {
-        if let Place::At(_) = phrase_at(phrase, text, i) {
+        if let Place::At(_) = opened_at(words, text, i) {
             return true;
         }
         i += 1;
@@ -27,12 +43,12 @@ impl Discouragements {
     pub fn new(buf: &[u8]) -> Flagged
         ensures { λ r. ⌜ flaggedAnswer r ≡ discouragementsAnswer (now (buf .entry)) ⌝ }
     {
-        if 4294967295 < buf.len() {
-            return Flagged::Refused(Refusal::TooLong);
+        if let Checked::Refused(r) = check_length(buf.len()) {
+            return Flagged::Refused(r);
         }
         Flagged::Flags(Discouragements {
-            modification_discouraged: stands_in(b"(Proof modification is discouraged.)", buf),
-            usage_discouraged: stands_in(b"(New usage is discouraged.)", buf),
+            modification_discouraged: stands_in(&PROOF_MODIFICATION, buf),
+            usage_discouraged: stands_in(&NEW_USAGE, buf),
         })
     }
 }

@@ -5,14 +5,10 @@ mod list;
 mod matching;
 mod state;
 
+use basics::Span;
+pub use list::PARENTHETICAL_WIDTH;
 pub use list::parentheticals;
 use records::Refusal;
-
-// The part of a buffer from `start` up to `end`.
-pub struct Span {
-    pub start: usize,
-    pub end: usize,
-}
 
 pub enum Parenthetical {
     // `(Contributed by Foo Bar, 12-Mar-2020.)`
@@ -46,7 +42,7 @@ pub enum Started {
 }
 
 // What a step answers: the next parenthetical, or that there is none.
-pub enum Step {
+pub enum NextParenthetical {
     Next(Found),
     End,
     Refused(Refusal),
@@ -54,7 +50,7 @@ pub enum Step {
 
 // A step, and the state after it.
 pub struct Stepped {
-    pub step: Step,
+    pub step: NextParenthetical,
     pub state: ParentheticalState,
 }
 

@@ -1,20 +1,24 @@
 // The records of a span's parentheticals, in an area that the caller lends.
 ghost use mathlib.Core.Path.{_≡_};
+ghost use mathlib.Core.List.{[], _∷_};
 ghost use lib.ListN.{length};
-ghost use lib.Dec.{leb};
 ghost use Rattle.byte_rules.specs.Reading.{rust};
 ghost use Rattle.records.specs.Answer.{filledAnswer};
-ghost use Rattle.records.specs.Records.{put};
+ghost use Rattle.records.specs.Records.{laid, wroteOf};
 ghost use Rattle.parentheticals.specs.Records.{kindOf, authorOf, dateOf, recordOf, recordWidth, InWords, parentheticalsAnswer, parentheticalsLeft};
 use crate::Found;
 use crate::Parenthetical;
-use crate::Span;
 use crate::matching::Search;
 use crate::matching::next_match;
+use basics::Span;
 use records::Checked;
 use records::Filled;
+use records::Wrote;
 use records::check_span;
-use records::put7;
+use records::lay;
+
+// How many words a parenthetical's record has: kind, then start and end of the whole, the author and the date.
+pub const PARENTHETICAL_WIDTH: usize = 7;
 
 // Kinds 1 to 5 in the enum's order.
 fn kind_of(item: Parenthetical) -> u32
@@ -56,24 +60,26 @@ fn date_of(item: Parenthetical) -> Span
 }
 
 // Writes a parenthetical's record at the front of `room`, if it fits.
-fn put_found(room: &mut [u32], found: Found) -> bool
+fn lay_found(room: &mut [u32], found: Found) -> Wrote
     requires { ⌜ InWords found ⌝ }
-    ensures fits { λ r. ⌜ r ≡ leb recordWidth (length (now (room .entry))) ⌝ }
-    ensures left { λ r. ⌜ now (room .exit) ≡ put recordWidth (recordOf found) (now (room .entry)) ⌝ }
+    ensures wrote { λ r. ⌜ r ≡ wroteOf recordWidth (recordOf found ∷ []) (length (now (room .entry))) ⌝ }
+    ensures left { λ r. ⌜ now (room .exit) ≡ laid recordWidth (recordOf found ∷ []) (now (room .entry)) ⌝ }
 {
     let whole = found.whole;
     let item = found.item;
     let author = author_of(item);
     let date = date_of(item);
-    put7(
+    lay(
         room,
-        kind_of(item),
-        whole.start as u32,
-        whole.end as u32,
-        author.start as u32,
-        author.end as u32,
-        date.start as u32,
-        date.end as u32,
+        &[
+            kind_of(item),
+            whole.start as u32,
+            whole.end as u32,
+            author.start as u32,
+            author.end as u32,
+            date.start as u32,
+            date.end as u32,
+        ],
     )
 }
 
@@ -92,13 +98,12 @@ pub fn parentheticals(buf: &[u8], start: usize, end: usize, out: &mut [u32]) -> 
         let Search::Hit(found) = next_match(&buf[..end], from) else {
             break;
         };
-        if put_found(&mut out[at..], found) {
-            at += 7;
-        }
-        n += 1;
+        let wrote = lay_found(&mut out[at..], found);
+        at += wrote.words;
+        n += wrote.count;
         from = found.whole.end;
     }
-    if n <= out.len() / 7 {
+    if n <= out.len() / PARENTHETICAL_WIDTH {
         Filled::Done(n)
     } else {
         Filled::Short(n)

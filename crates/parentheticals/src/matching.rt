@@ -6,14 +6,19 @@ ghost use Rattle.parentheticals.specs.Matching.{headOf, tailOf, foundOf,
 ghost use Rattle.parentheticals.specs.Matching.{creditOf, noticeOf, credited, noticed, nextFrom, Passed};
 use crate::Found;
 use crate::Parenthetical;
-use crate::Span;
-use crate::fields::Place;
 use crate::fields::author_len;
 use crate::fields::author_start;
 use crate::fields::date_at;
 use crate::fields::phrase_at;
+use basics::Place;
+use basics::Span;
 use look::byte_at;
 use scans::plain::lacks_8;
+
+// The words of the two notices, behind the `(`.
+pub const PROOF_MODIFICATION: [u8; 35] = *b"Proof modification is discouraged.)";
+
+pub const NEW_USAGE: [u8; 26] = *b"New usage is discouraged.)";
 
 // A kind, and the place behind what tells it.
 pub enum Head {
@@ -68,10 +73,10 @@ fn head_at(text: &[u8], at: usize) -> Head
 fn notice_at(text: &[u8], at: usize) -> Head
     ensures { λ r. ⌜ headOf r ≡ noticeAt (now (text .entry)) at ⌝ }
 {
-    if let Place::At(i) = phrase_at(b"Proof modification is discouraged.)", text, at) {
+    if let Place::At(i) = phrase_at(&PROOF_MODIFICATION, text, at) {
         return Head::Kind(4, i);
     }
-    if let Place::At(i) = phrase_at(b"New usage is discouraged.)", text, at) {
+    if let Place::At(i) = phrase_at(&NEW_USAGE, text, at) {
         return Head::Kind(5, i);
     }
     Head::NoKind

@@ -2,9 +2,9 @@
 ghost use mathlib.Core.Path.{_≡_};
 ghost use Rattle.byte_rules.specs.Reading.{rust};
 ghost use Rattle.parentheticals.specs.Answers.{startedAnswer, startAnswer, stepAnswer, nextAnswer, nextState};
+use crate::NextParenthetical;
 use crate::ParentheticalState;
 use crate::Started;
-use crate::Step;
 use crate::Stepped;
 use crate::matching::Search;
 use crate::matching::next_match;
@@ -35,20 +35,20 @@ impl ParentheticalState {
         let end = self.end;
         if let Checked::Refused(r) = check_state(buf.len(), position, end) {
             return Stepped {
-                step: Step::Refused(r),
+                step: NextParenthetical::Refused(r),
                 state: self,
             };
         }
         match next_match(&buf[..end], position) {
             Search::Hit(found) => Stepped {
-                step: Step::Next(found),
+                step: NextParenthetical::Next(found),
                 state: ParentheticalState {
                     position: found.whole.end,
                     end,
                 },
             },
             Search::Nothing => Stepped {
-                step: Step::End,
+                step: NextParenthetical::End,
                 state: self,
             },
         }

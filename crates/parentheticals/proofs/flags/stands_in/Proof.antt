@@ -1,33 +1,34 @@
--- `flags::stands_in` meets its contract: the phrase stands from here on where it stands from the start.
+-- `flags::stands_in` meets its contract: the notice stands from here on where it stands from the start.
 -- Assumes nothing.
 use borrow.Author.Needs.{needs}
 use mathlib.Core.Path.{_≡_, refl, sym, ap, _∙_}
 use Prim.Native.Nat.{_-_}
+use mathlib.Core.List.{_∷_}
 use lib.ListN.{length}
-use Rattle.parentheticals.specs.Fields.{placeOf}
+use Rattle.parentheticals.specs.Fields.{lparen, placeOf}
 use Rattle.parentheticals.specs.Matching.{standsIn}
 use Rattle.parentheticals.proofs.Candidates.{stands-none, stands-miss, stands-hit}
 use Rattle.parentheticals.proofs.flags.stands_in.Statement.{statement}
 use Rattle.parentheticals.proofs.flags.stands_in.Tie as tie
 
 abbrev Inv-loop : tie.InvT-loop
-Inv-loop phrase text i₀ i = standsIn phrase text i ≡ standsIn phrase text 0
+Inv-loop words text i₀ i = standsIn (lparen ∷ words) text i ≡ standsIn (lparen ∷ words) text 0
 
 abbrev μ-loop : tie.MeasureT-loop
-μ-loop phrase text i₀ i = length text - i
+μ-loop words text i₀ i = length text - i
 
 loop-holds : tie.Need-loop-holds Inv-loop μ-loop
 loop-holds c = refl
 
-phrase-at-requires : tie.Need-phrase-at-requires Inv-loop μ-loop
-phrase-at-requires c κs = search needs
+opened-at-requires : tie.Need-opened-at-requires Inv-loop μ-loop
+opened-at-requires c κs = search needs
 
 enum-told : tie.Need-enum-told Inv-loop μ-loop
 enum-told c = search needs
 
 returns : tie.Need-returns Inv-loop μ-loop
 returns c =
-    let stands = sym (c .before .before .phrase-at .ensures) ∙ ap placeOf (c .enum-told .given .1) in
+    let stands = sym (c .before .before .opened-at .ensures) ∙ ap placeOf (c .enum-told .given .1) in
     sym (stands-hit _ _ _ (c .before .before .before .loop-test .taken) _ stands) ∙ c .before .before .before .before .loop .inv
 
 enum-told-2 : tie.Need-enum-told-2 Inv-loop μ-loop
@@ -41,7 +42,7 @@ loop-less c = search needs
 
 loop-again : tie.Need-loop-again Inv-loop μ-loop
 loop-again c =
-    let none-here = sym (c .before .before .phrase-at .ensures) ∙ ap placeOf (c .enum-told2 .given .1) in
+    let none-here = sym (c .before .before .opened-at .ensures) ∙ ap placeOf (c .enum-told2 .given .1) in
     sym (stands-miss _ _ _ (c .before .before .before .loop-test .taken) none-here) ∙ c .before .before .before .before .loop .inv
 
 returns-2 : tie.Need-returns-2 Inv-loop μ-loop
@@ -54,7 +55,7 @@ stands-in-spec =
     Inv-loop
     μ-loop
     loop-holds
-    phrase-at-requires
+    opened-at-requires
     enum-told
     returns
     enum-told-2

@@ -1,19 +1,18 @@
 -- `list::parentheticals` meets its contract. The invariant of its loop is `Going`: the records from here, laid in the tail, are the
--- records of the span, laid in the room as it was. A turn is `laying-put` or `laying-short`, by what `put_found` answered.
+-- records of the span, laid in the room as it was.
 -- Assumes nothing.
 use borrow.Author.Needs.{needs}
-use mathlib.Core.Path.{_≡_, refl, sym, ap, subst, _∙_}
-use mathlib.Core.Logic.{⊎-elim}
+use mathlib.Core.Path.{_≡_, refl, sym, ap, _∙_}
 use mathlib.Core.List.{List, [], _∷_}
 use mathlib.Core.Option.{none, some}
-use mathlib.Core.Bool.{true, false}
 use Prim.Native.Nat.{ℕ, _+_, _-_, _≤_}
 use native.Mathlib.Omega.{arith}
 use lib.ListN.{length, take}
 use lib.Seq.{length-take-le}
 use Rattle.byte_rules.specs.Reading.{rust, barsNothing}
 use Rattle.records.specs.Answer.{checkedAnswer, longest, spanRefusal}
-use Rattle.records.proofs.Laying.{Laying, back, laying-starts, laying-put, laying-short, given-refused, given-done, given-short}
+use Rattle.records.specs.declared.Wrote.{Wrote}
+use Rattle.records.proofs.Laying.{Laying, back, laying-starts, laying-wrote, given-refused, given-done, given-short}
 use Rattle.parentheticals.specs.Matching.{foundOf, nextFrom}
 use Rattle.parentheticals.specs.Records.{recordOf, recordWidth, recordsOf}
 use Rattle.parentheticals.specs.declared.Found.{Found}
@@ -78,21 +77,20 @@ module _ (c : tie.After-found Inv-loop μ-loop) where
   to-come : Laid head (recordOf hit ∷ recordsFrom (text head) (hit .whole .end)) (head .loop .out) (head .loop .at) (head .loop .n)
   to-come = rw (records-more _ _ _ hit-is) at (head .loop .inv .laying)
 
--- after `put_found`, by its answer: the tail has come back, with the record at its front or as it was
-module _ (c : tie.After-put-found Inv-loop μ-loop) where
+-- after the record is laid: the tail has come back, with the record at its front or as it was
+module _ (c : tie.After-lay-found Inv-loop μ-loop) where
   abbrev arm : tie.After-found Inv-loop μ-loop
   arm = c .before .before .before
 
-  abbrev Turned : ℕ → Type 0
-  Turned at =
-      let l = head arm .loop in
-      Laid (head arm) (recordsFrom (text (head arm)) (hit arm .whole .end)) (back (l .at) (l .out) (c .put-found .last .0)) at (l .n + 1)
+  counted : c .lay-found .result .count ≡ 1
+  counted = ap (λ (w : Wrote). w .count) (c .lay-found .ensures .0)
 
-  turn-put : c .put-found .result ≡ true → (head arm .loop .at + 7 ≤ length (head arm .loop .out)) × Turned (head arm .loop .at + 7)
-  turn-put b = laying-put _ _ (to-come arm) refl (c .put-found .ensures .1) (sym (c .put-found .ensures .0) ∙ b)
-
-  turn-short : c .put-found .result ≡ false → Turned (head arm .loop .at)
-  turn-short b = laying-short _ _ (to-come arm) refl (c .put-found .ensures .1) (sym (c .put-found .ensures .0) ∙ b)
+  turned : let l = head arm .loop in
+      let w = c .lay-found .result in
+      let rest = recordsFrom (text (head arm)) (hit arm .whole .end) in
+      (l .at + w .words ≤ length (l .out)) × Laid (head arm) rest (back (l .at) (l .out) (c .lay-found .last .0)) (l .at + w .words) (l .n + w .count)
+  turned =
+      laying-wrote (recordOf (hit arm) ∷ []) _ _ (to-come arm) (refl, tt) (c .lay-found .ensures .1) (c .lay-found .result) (c .lay-found .ensures .0)
 
 -- at the end no record is to come
 none-to-come : (c : tie.After-enum-told2 Inv-loop μ-loop) → let l = c .before .before .before .before in Laid l [] (l .loop .out) (l .loop .at) (l .loop .n)
@@ -117,45 +115,47 @@ enum-known-found c = search needs
 enum-told-2 : tie.Need-enum-told-2 Inv-loop μ-loop
 enum-told-2 c = search needs
 
-mul-put-found : tie.Need-mul-put-found Inv-loop μ-loop
-mul-put-found c = search needs
+mul-lay-found : tie.Need-mul-lay-found Inv-loop μ-loop
+mul-lay-found c = search needs
 
-sub-put-found : tie.Need-sub-put-found Inv-loop μ-loop
-sub-put-found c = search needs
+sub-lay-found : tie.Need-sub-lay-found Inv-loop μ-loop
+sub-lay-found c = search needs
 
-part-put-found-start : tie.Need-part-put-found-start Inv-loop μ-loop
-part-put-found-start c = search needs
+part-lay-found-start : tie.Need-part-lay-found-start Inv-loop μ-loop
+part-lay-found-start c = search needs
 
-part-put-found-end : tie.Need-part-put-found-end Inv-loop μ-loop
-part-put-found-end c = search needs
+part-lay-found-end : tie.Need-part-lay-found-end Inv-loop μ-loop
+part-lay-found-end c = search needs
 
-put-found-requires : tie.Need-put-found-requires Inv-loop μ-loop
-put-found-requires c κs =
+lay-found-requires : tie.Need-lay-found-requires Inv-loop μ-loop
+lay-found-requires c κs =
     let ok = good (head (c .before .before)) in
     lies-words _ _ _ (omega (arith, ok .0, ok .2)) (hit-lies (c .before .before))
 
 add-at : tie.Need-add-at Inv-loop μ-loop
-add-at c = omega (arith, turn-put (c .before .before .before) (c .if1 .taken) .0)
+add-at c =
+    let laid = c .before .before .before in
+    let l = head (arm laid) in
+    omega (arith, turned laid .0, l .loop .inv .laying .long, entry l .good)
 
 add-n : tie.Need-add-n Inv-loop μ-loop
 add-n c =
-    let r = hit-lies (c .before .before .before .before .before .before) in
-    let i = head (c .before .before .before .before .before .before) .loop .inv in
-    omega (arith, r .behind, r .onward, r .inside, i .few)
+    let laid = c .before .before .before .before in
+    let ok = good (head (arm laid)) in
+    let r = hit-lies (arm laid) in
+    omega (arith, ok .0, ok .2, counted laid, r .behind, r .onward, r .inside, head (arm laid) .loop .inv .few)
 
 loop-less : tie.Need-loop-less Inv-loop μ-loop
-loop-less c = let r = hit-lies (c .before .before .before .before .before .before) in omega (arith, r .behind, r .onward, r .inside)
+loop-less c = let r = hit-lies (arm (c .before .before .before .before)) in omega (arith, r .behind, r .onward, r .inside)
 
 loop-again : tie.Need-loop-again Inv-loop μ-loop
 loop-again c =
-    let put = c .before .before .before in
-    let r = hit-lies (arm put) in
+    let laid = c .before .before .before .before in
+    let r = hit-lies (arm laid) in
     record {
       within = r .inside;
-      few = omega (arith, r .behind, r .onward, r .inside, head (arm put) .loop .inv .few);
-      laying =
-          ⊎-elim (λ w. subst (Turned put) (sym (w .1)) (turn-put put (w .0 .taken) .1))
-          (λ w. subst (Turned put) (sym (w .1)) (turn-short put (w .0 .left))) (c .if1 .came);
+      few = omega (arith, counted laid, r .behind, r .onward, r .inside, head (arm laid) .loop .inv .few);
+      laying = turned laid .1;
     }
 
 same-length : tie.Need-same-length Inv-loop μ-loop
@@ -185,11 +185,11 @@ parentheticals-spec =
     next-match-requires
     enum-known-found
     enum-told-2
-    mul-put-found
-    sub-put-found
-    part-put-found-start
-    part-put-found-end
-    put-found-requires
+    mul-lay-found
+    sub-lay-found
+    part-lay-found-start
+    part-lay-found-end
+    lay-found-requires
     add-at
     add-n
     loop-less

@@ -13,7 +13,7 @@ use lib.ListN.{length, getD}
 use borrow.Author.Tests.{leb-true}
 use Rattle.basics.proofs.Laws.{both}
 use Rattle.byte_rules.specs.Reading.{barsNothing}
-use Rattle.parentheticals.specs.Fields.{authorEnd}
+use Rattle.parentheticals.specs.Fields.{lparen, authorEnd}
 use Rattle.parentheticals.specs.Matching.{headOf, tailOf, headAt, noticeAt, restAt, nextFrom}
 use Rattle.parentheticals.proofs.Inside.{Begins}
 use Rattle.parentheticals.proofs.Authors.{Way, len-fits, way-starts, way-on, author-comma, author-stop}
@@ -53,14 +53,16 @@ module _ (f : tie.At-field Inv-field μ-field Inv-candidates μ-candidates) wher
   abbrev first : ℕ
   first = f .before .before .before .kind2 .given .0 .1 .0
 
-  opened : getD s opening 0 ≡ 40
+  opened : getD s opening 0 ≡ lparen
   opened = f .before .before .before .before .before .before .before .before .before .if1 .left
 
   inside : opening < length s
   inside = f .before .before .before .before .before .before .before .before .before .before .before .candidates-test .taken
 
   no-notice : noticeAt s (opening + 1) ≡ none
-  no-notice = let told = f .before .before .before .before .before .before in sym (told .before .before .notice-at .ensures) ∙ ap headOf (told .enum-told .given .1)
+  no-notice =
+      let told = f .before .before .before .before .before .before in
+      sym (told .before .before .notice-at .ensures) ∙ ap headOf (told .enum-told .given .1)
 
   head : headAt s (opening + 1) ≡ some (f .before .before .before .kind2 .given .0 .0, first)
   head = sym (f .before .before .before .before .before .head-at .ensures) ∙ ap headOf (f .before .before .before .kind2 .given .1)

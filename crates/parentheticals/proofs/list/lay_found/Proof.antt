@@ -1,11 +1,11 @@
--- `list::put_found` meets its contract.
+-- `list::lay_found` meets its contract.
 -- Assumes nothing.
 use mathlib.Core.Path.{ap}
 use native.Mathlib.Omega.{arith}
-use Rattle.parentheticals.specs.declared.Span.{Span}
+use Rattle.basics.specs.declared.Span.{Span}
 use borrow.Author.Needs.{needs}
-use Rattle.parentheticals.proofs.list.put_found.Statement.{statement}
-use Rattle.parentheticals.proofs.list.put_found.Tie as tie
+use Rattle.parentheticals.proofs.list.lay_found.Statement.{statement}
+use Rattle.parentheticals.proofs.list.lay_found.Tie as tie
 
 author-of-requires : tie.Need-author-of-requires
 author-of-requires c κs = search needs
@@ -16,58 +16,63 @@ date-of-requires c κs = search needs
 kind-of-requires : tie.Need-kind-of-requires
 kind-of-requires c κs = search needs
 
-cast-put7 : tie.Need-cast-put7
-cast-put7 c = search needs
+cast-t11 : tie.Need-cast-t11
+cast-t11 c = search needs
 
-cast-put7-2 : tie.Need-cast-put7-2
-cast-put7-2 c = search needs
+cast-t12 : tie.Need-cast-t12
+cast-t12 c = search needs
 
-cast-put7-3 : tie.Need-cast-put7-3
-cast-put7-3 c =
+cast-t13 : tie.Need-cast-t13
+cast-t13 c =
     let same = ap (λ (a : Span). a .start) (c .before .before .before .before .before .before .author-of .ensures) in
     omega (arith, same, c .before .before .before .before .before .before .before .before .before .pre .author)
 
-cast-put7-4 : tie.Need-cast-put7-4
-cast-put7-4 c =
+cast-t14 : tie.Need-cast-t14
+cast-t14 c =
     let same = ap (λ (a : Span). a .end) (c .before .before .before .before .before .before .before .author-of .ensures) in
     omega (arith, same, c .before .before .before .before .before .before .before .before .before .before .pre .author)
 
-cast-put7-5 : tie.Need-cast-put7-5
-cast-put7-5 c =
+cast-t15 : tie.Need-cast-t15
+cast-t15 c =
     let same = ap (λ (a : Span). a .start) (c .before .before .before .before .before .before .before .date-of .ensures) in
     omega (arith, same, c .before .before .before .before .before .before .before .before .before .before .before .pre .date)
 
-cast-put7-6 : tie.Need-cast-put7-6
-cast-put7-6 c =
+cast-t16 : tie.Need-cast-t16
+cast-t16 c =
     let same = ap (λ (a : Span). a .end) (c .before .before .before .before .before .before .before .before .date-of .ensures) in
     omega (arith, same, c .before .before .before .before .before .before .before .before .before .before .before .before .pre .date)
 
-put7-requires : tie.Need-put7-requires
-put7-requires c κs = search needs
+slice-aggregate-lay : tie.Need-slice-aggregate-lay
+slice-aggregate-lay c = search needs
+
+lay-requires : tie.Need-lay-requires
+lay-requires c κs = search needs
 
 same-length : tie.Need-same-length
 same-length c = search needs
 
 returns : tie.Need-returns
 returns c =
-    let kind = c .before .before .before .before .before .before .before .before .before .kind-of .ensures in
-    let author = c .before .before .before .before .before .before .before .before .before .before .before .before .author-of .ensures in
-    let date = c .before .before .before .before .before .before .before .before .before .before .before .date-of .ensures in
-    (c .before .before .put7 .ensures .0, rw (← kind, ← author, ← date) (c .before .before .put7 .ensures .1))
+    let kinded = c .before .before .before .before .before .before .before .before .before .before in
+    let kind = kinded .kind-of .ensures in
+    let date = kinded .before .before .date-of .ensures in
+    let author = kinded .before .before .before .author-of .ensures in
+    rw (← kind, ← author, ← date) (c .before .before .lay .ensures)
 
-pub put-found-spec : {M : Type 1} → statement M
-put-found-spec =
+pub lay-found-spec : {M : Type 1} → statement M
+lay-found-spec =
     tie.close
     (tie.spec
     author-of-requires
     date-of-requires
     kind-of-requires
-    cast-put7
-    cast-put7-2
-    cast-put7-3
-    cast-put7-4
-    cast-put7-5
-    cast-put7-6
-    put7-requires
+    cast-t11
+    cast-t12
+    cast-t13
+    cast-t14
+    cast-t15
+    cast-t16
+    slice-aggregate-lay
+    lay-requires
     same-length
     returns)
