@@ -14,7 +14,8 @@ use Rattle.look.proofs.Laws.{byte-test}
 use Rattle.scans.specs.Plain.{Lacks, Lacking}
 use Rattle.scans.proofs.Laws.{clash}
 use Rattle.parentheticals.specs.Fields.{lparen, phraseAt, authorEnd}
-use Rattle.parentheticals.specs.Matching.{headAt, noticeAt, tailAt, credited, noticed, restAt, creditAt, matchAt, firstOf, nextFrom, Passed, standsIn}
+use Rattle.parentheticals.specs.Matching.{headAt, noticeAt, tailAt, credited, noticed, restAt, creditAt, matchAt, firstOf, nextFrom, standsIn}
+use Rattle.parentheticals.specs.Inner.{Passed}
 use Rattle.parentheticals.specs.declared.Found.{Found}
 use Rattle.parentheticals.specs.declared.matching.Closing.{Closing}
 use Rattle.parentheticals.proofs.Authors.{Way}

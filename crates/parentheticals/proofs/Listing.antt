@@ -15,7 +15,8 @@ use Rattle.records.specs.Produced.{grow}
 use Rattle.records.proofs.ProducedLaws.{produced-step}
 use Rattle.records.proofs.Laying.{Laying}
 use Rattle.parentheticals.specs.Matching.{nextFrom, stepFrom, bytesLeft, matchesFrom}
-use Rattle.parentheticals.specs.Records.{authorOf, dateOf, recordOf, recordWidth, recordsOf, InWords}
+use Rattle.parentheticals.specs.Records.{authorOf, dateOf, recordOf, recordWidth, recordsOf}
+use Rattle.parentheticals.specs.Inner.{InWords}
 use Rattle.parentheticals.specs.declared.Parenthetical.{Parenthetical}
 use Rattle.parentheticals.specs.declared.Parenthetical.the-variants.{ContributedBy, RevisedBy, ProofShortenedBy}
 use Rattle.parentheticals.specs.declared.Parenthetical.the-variants.{ProofModificationDiscouraged, NewUsageDiscouraged}

@@ -7,8 +7,6 @@ use mathlib.Core.Option.{Option, none, some}
 use lib.ListN.{length, drop}
 use lib.Dec.{ltb, eqb}
 use Rattle.basics.specs.Choice.{orElse}
-use Rattle.basics.specs.declared.Place.{Place}
-use Rattle.basics.specs.declared.Place.the-variants.{At, Nowhere}
 use Rattle.byte_rules.specs.Text.{bytes}
 use Rattle.byte_rules.specs.Classes.{isCreditSpace, isDigit, isCapital, isSmall, isAuthorByte}
 use Rattle.byte_rules.specs.Utf8.{charLen}
@@ -20,11 +18,6 @@ lparen = 40
 
 abbrev pub comma : ℕ
 comma = 44
-
--- the place that a matcher of the code answers
-abbrev pub placeOf : Place → Option ℕ
-placeOf (At i) = some i
-placeOf Nowhere = none
 
 -- one field after the other
 infixl 20 _>>=_

@@ -1,7 +1,6 @@
 -- Parentheticals (document 01, "Credits and dates"): what matches at an opening parenthesis, the first match from a place on, and all of them.
-use Prim.Native.Nat.{ℕ, zero, suc, _+_, _-_, _≤_}
+use Prim.Native.Nat.{ℕ, zero, suc, _+_, _-_}
 use mathlib.Core.List.{List}
-use mathlib.Core.Path.{_≡_}
 use mathlib.Core.Bool.{Bool, true, false, cond}
 use mathlib.Core.Option.{Option, none, some}
 use lib.ListN.{length}
@@ -16,26 +15,7 @@ use Rattle.parentheticals.specs.declared.Parenthetical.{Parenthetical}
 use Rattle.parentheticals.specs.declared.Parenthetical.the-variants.{ContributedBy, RevisedBy, ProofShortenedBy}
 use Rattle.parentheticals.specs.declared.Parenthetical.the-variants.{ProofModificationDiscouraged, NewUsageDiscouraged}
 use Rattle.parentheticals.specs.declared.Found.{Found}
-use Rattle.parentheticals.specs.declared.matching.Head.{Head}
-use Rattle.parentheticals.specs.declared.matching.Head.the-variants.{Kind, NoKind}
 use Rattle.parentheticals.specs.declared.matching.Closing.{Closing}
-use Rattle.parentheticals.specs.declared.matching.Tail.{Tail}
-use Rattle.parentheticals.specs.declared.matching.Tail.the-variants.{Closed, Unclosed}
-use Rattle.parentheticals.specs.declared.matching.Search.{Search}
-use Rattle.parentheticals.specs.declared.matching.Search.the-variants.{Hit, Nothing}
-
--- what the code's searches answer
-abbrev pub headOf : Head → Option (ℕ × ℕ)
-headOf (Kind k i) = some (k, i)
-headOf NoKind = none
-
-abbrev pub tailOf : Tail → Option Closing
-tailOf (Closed t) = some t
-tailOf Unclosed = none
-
-abbrev pub foundOf : Search → Option Found
-foundOf (Hit f) = some f
-foundOf Nothing = none
 
 abbrev pub span : ℕ → ℕ → Span
 span a e = record { start = a; end = e }
@@ -131,11 +111,6 @@ module _ (bars : ℕ → Bool) (s : List ℕ) where
   -- the leftmost match from i on
   unfoldable pub nextFrom : ℕ → Option Found
   nextFrom i = firstOf (matchAt bars s) (length s - i) i
-
-  -- a search that is at i may go on at r
-  pub record Passed (i r : ℕ) : Type 0 where
-    pub same : nextFrom i ≡ nextFrom r
-    pub onward : i ≤ r
 
   -- it, and its end, from which the next is looked for: none overlap
   unfoldable pub stepFrom : ℕ → Option (Found × ℕ)

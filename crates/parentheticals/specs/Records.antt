@@ -1,10 +1,10 @@
 -- The records of a span's parentheticals, and the list call (document 01, "Credits and dates" and "Answer numbers").
-use Prim.Native.Nat.{ℕ, _≤_}
+use Prim.Native.Nat.{ℕ}
 use mathlib.Core.List.{List, [], _∷_, map}
 use lib.ListN.{length, take}
 use Rattle.basics.specs.declared.Span.{Span}
 use Rattle.byte_rules.specs.Reading.{Reading}
-use Rattle.records.specs.Answer.{Answer, longest, spanRefusal}
+use Rattle.records.specs.Answer.{Answer, spanRefusal}
 use Rattle.records.specs.Records.{listAnswer, listLeft}
 use Rattle.parentheticals.specs.Matching.{span, matchesFrom}
 use Rattle.parentheticals.specs.declared.Parenthetical.{Parenthetical}
@@ -57,9 +57,3 @@ parentheticalsAnswer r buf start end room = listAnswer (spanRefusal (length buf)
 
 abbrev pub parentheticalsLeft : Reading → List ℕ → ℕ → ℕ → List ℕ → List ℕ
 parentheticalsLeft r buf start end room = listLeft (spanRefusal (length buf) start end) recordWidth (recordsOf r buf start end) room
-
--- the places of a parenthetical fit a record's words
-pub record InWords (f : Found) : Type 0 where
-  pub whole : (f .whole .start ≤ longest) × (f .whole .end ≤ longest)
-  pub author : (authorOf (f .item) .start ≤ longest) × (authorOf (f .item) .end ≤ longest)
-  pub date : (dateOf (f .item) .start ≤ longest) × (dateOf (f .item) .end ≤ longest)

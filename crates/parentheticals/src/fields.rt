@@ -1,7 +1,8 @@
 // The fields of a parenthetical: each matcher answers the place past what it matched.
 ghost use mathlib.Core.Path.{_≡_};
 ghost use Rattle.byte_rules.specs.Reading.{rust};
-ghost use Rattle.parentheticals.specs.Fields.{placeOf, spaceEnd, spacesAt, signAt, phraseAt, fits, pictureAt, dateAt, authorStart, authorLen};
+ghost use Rattle.parentheticals.specs.Fields.{spaceEnd, spacesAt, signAt, phraseAt, fits, pictureAt, dateAt, authorStart, authorLen};
+ghost use Rattle.parentheticals.specs.Inner.{placeOf};
 use basics::Place;
 use byte_rules::is_author_byte;
 use byte_rules::is_capital;

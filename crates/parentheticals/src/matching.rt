@@ -1,9 +1,8 @@
 // What matches at an opening parenthesis, and the first match from a place on.
 ghost use mathlib.Core.Path.{_≡_};
 ghost use Rattle.byte_rules.specs.Reading.{rust};
-ghost use Rattle.parentheticals.specs.Fields.{placeOf};
-ghost use Rattle.parentheticals.specs.Matching.{headOf, tailOf, foundOf, authorAfter, headAt, noticeAt, tailAt};
-ghost use Rattle.parentheticals.specs.Matching.{creditOf, noticeOf, credited, noticed, nextFrom, Passed};
+ghost use Rattle.parentheticals.specs.Matching.{authorAfter, headAt, noticeAt, tailAt, creditOf, noticeOf, credited, noticed, nextFrom};
+ghost use Rattle.parentheticals.specs.Inner.{placeOf, headOf, tailOf, foundOf, Passed};
 use crate::Found;
 use crate::Parenthetical;
 use crate::fields::author_len;

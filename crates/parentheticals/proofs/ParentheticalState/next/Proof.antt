@@ -3,7 +3,7 @@
 use mathlib.Core.Path.{sym, ap, _∙_}
 use Rattle.records.specs.Answer.{checkedAnswer}
 use Rattle.parentheticals.specs.Answers.{nextAnswer, nextState}
-use Rattle.parentheticals.specs.Matching.{foundOf}
+use Rattle.parentheticals.specs.Inner.{foundOf}
 use Rattle.records.proofs.Answers.{state-accepted}
 use lib.Seq.{length-take-le}
 use borrow.Author.Needs.{needs}

@@ -2,7 +2,7 @@
 -- Assumes nothing.
 use mathlib.Core.Path.{sym, ap, _∙_}
 use native.Mathlib.Omega.{arith}
-use Rattle.parentheticals.specs.Fields.{placeOf}
+use Rattle.parentheticals.specs.Inner.{placeOf}
 use Rattle.look.proofs.Laws.{byte-within}
 use Rattle.parentheticals.proofs.FieldLaws.{author-none, author-here, author-back, author-one}
 use Rattle.parentheticals.proofs.Inside.{spaces-are}

@@ -1,7 +1,8 @@
 -- `fields::date_at` meets its contract.
 -- Assumes nothing.
 use mathlib.Core.Path.{sym, ap, _∙_}
-use Rattle.parentheticals.specs.Fields.{placeOf, dateAt}
+use Rattle.parentheticals.specs.Fields.{dateAt}
+use Rattle.parentheticals.specs.Inner.{placeOf}
 use borrow.Author.Needs.{needs}
 use Rattle.parentheticals.proofs.fields.date_at.Statement.{statement}
 use Rattle.parentheticals.proofs.fields.date_at.Tie as tie

@@ -4,7 +4,8 @@ use borrow.Author.Needs.{needs}
 use mathlib.Core.Path.{_≡_, refl, sym, ap, _∙_}
 use Prim.Native.Nat.{_-_}
 use lib.ListN.{length, drop}
-use Rattle.parentheticals.specs.Fields.{placeOf, phraseAt}
+use Rattle.parentheticals.specs.Fields.{phraseAt}
+use Rattle.parentheticals.specs.Inner.{placeOf}
 use Rattle.parentheticals.proofs.FieldLaws.{phrase-end, phrase-next, phrase-stop}
 use Rattle.parentheticals.proofs.fields.phrase_at.Statement.{statement}
 use Rattle.parentheticals.proofs.fields.phrase_at.Tie as tie

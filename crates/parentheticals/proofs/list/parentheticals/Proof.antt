@@ -13,7 +13,8 @@ use Rattle.byte_rules.specs.Reading.{rust, barsNothing}
 use Rattle.records.specs.Answer.{checkedAnswer, longest, spanRefusal}
 use Rattle.records.specs.declared.Wrote.{Wrote}
 use Rattle.records.proofs.Laying.{Laying, back, laying-starts, laying-wrote, given-refused, given-done, given-short}
-use Rattle.parentheticals.specs.Matching.{foundOf, nextFrom}
+use Rattle.parentheticals.specs.Matching.{nextFrom}
+use Rattle.parentheticals.specs.Inner.{foundOf}
 use Rattle.parentheticals.specs.Records.{recordOf, recordWidth, recordsOf}
 use Rattle.parentheticals.specs.declared.Found.{Found}
 use Rattle.parentheticals.proofs.Lies.{Lies, next-lies}

@@ -1,7 +1,7 @@
 -- `matching::author_after` meets its contract.
 -- Assumes nothing.
 use mathlib.Core.Path.{sym, ap, _∙_}
-use Rattle.parentheticals.specs.Fields.{placeOf}
+use Rattle.parentheticals.specs.Inner.{placeOf}
 use Rattle.parentheticals.specs.Matching.{authorAfter}
 use borrow.Author.Needs.{needs}
 use Rattle.parentheticals.proofs.matching.author_after.Statement.{statement}

@@ -14,7 +14,8 @@ use borrow.Author.Tests.{leb-true}
 use Rattle.basics.proofs.Laws.{both}
 use Rattle.byte_rules.specs.Reading.{barsNothing}
 use Rattle.parentheticals.specs.Fields.{lparen, authorEnd}
-use Rattle.parentheticals.specs.Matching.{headOf, tailOf, headAt, noticeAt, restAt, nextFrom}
+use Rattle.parentheticals.specs.Matching.{headAt, noticeAt, restAt, nextFrom}
+use Rattle.parentheticals.specs.Inner.{headOf, tailOf}
 use Rattle.parentheticals.proofs.Inside.{Begins}
 use Rattle.parentheticals.proofs.Authors.{Way, len-fits, way-starts, way-on, author-comma, author-stop}
 use Rattle.parentheticals.proofs.Candidates.{Barren, barren-none, barren-way, rest-open, rest-tail}

@@ -1,7 +1,7 @@
 -- `matching::tail_at` meets its contract.
 -- Assumes nothing.
 use mathlib.Core.Path.{sym, ap, _∙_}
-use Rattle.parentheticals.specs.Fields.{placeOf}
+use Rattle.parentheticals.specs.Inner.{placeOf}
 use Rattle.parentheticals.specs.Matching.{tailAt}
 use borrow.Author.Needs.{needs}
 use Rattle.parentheticals.proofs.matching.tail_at.Statement.{statement}

@@ -5,7 +5,7 @@ use native.Mathlib.Omega.{arith}
 use lib.ListN.{length}
 use borrow.Author.Needs.{needs}
 use Rattle.byte_rules.specs.Reading.{barsNothing}
-use Rattle.parentheticals.specs.Matching.{Passed}
+use Rattle.parentheticals.specs.Inner.{Passed}
 use Rattle.parentheticals.proofs.Candidates.{passed-starts, passed-one, passed-eight}
 use Rattle.parentheticals.proofs.matching.to_opening.Statement.{statement}
 use Rattle.parentheticals.proofs.matching.to_opening.Tie as tie
