@@ -14,18 +14,19 @@ use Rattle.byte_rules.specs.Reading.{rust}
 use Rattle.scans.specs.Notes.{Holds}
 use Rattle.scans.specs.declared.Note.{Note}
 use Rattle.scans.proofs.TagLaws.{holds-nothing}
-use Rattle.comment_parser.specs.Item.{placedOf, Within}
+use Rattle.comment_parser.specs.Item.{placedOf}
+use Rattle.comment_parser.specs.Bounds.{Within}
 use Rattle.comment_parser.specs.State.{fresh}
-use Rattle.comment_parser.specs.Next.{stepAnswer, nextOf}
+use Rattle.comment_parser.specs.Next.{stepAnswer}
 use Rattle.comment_parser.specs.Events.{paired, seen}
-use Rattle.comment_parser.specs.Notes.{Answers}
+use Rattle.comment_parser.specs.Notes.{NextBy}
 use Rattle.comment_parser.specs.declared.CommentItem.{CommentItem}
 use Rattle.comment_parser.specs.declared.Next.{Next}
 use Rattle.comment_parser.specs.declared.Next.the-variants.{Event, End, Refused}
 use Rattle.comment_parser.specs.declared.NextNoted.{NextNoted}
 use Rattle.comment_parser.specs.declared.ParserState.{ParserState}
 use Rattle.comment_parser.proofs.Next.{the-type}
-use Rattle.comment_parser.proofs.Progress.{GoesOn}
+use Rattle.comment_parser.proofs.Turns.{GoesOn}
 use Rattle.comment_parser.proofs.Events.{seen-on, stays-accepted}
 use Rattle.comment_parser.proofs.Reached.{Reached, Lies, fresh-reached, seen-lies}
 
@@ -45,11 +46,10 @@ no-event (End t) h = refl
 no-event (Refused t r) h = refl
 
 -- what `next_noted` promises of its answer
-module _ {buf : List ℕ} {st : ParserState} {note : Note} {r : NextNoted} (a : Along buf st note)
-    (says : Holds (take (st .end) buf) note → Answers (take (st .end) buf) (nextOf rust buf st) r) where
+module _ {buf : List ℕ} {st : ParserState} {note : Note} {r : NextNoted} (a : Along buf st note) (says : NextBy buf st note r) where
   along-seen : (n : Next) → r .next ≡ n → seen rust buf st ≡ paired (stepAnswer n .event) (stepAnswer n .state)
   unfolding seen
-  along-seen n e = rw (← says (a .noted) .is, e)
+  along-seen n e = rw (← says .reads (a .noted) .is, e)
 
   pub along-end : OneOf (1 ∷ 2 ∷ []) (tagOf the-type (r .next)) → seen rust buf st ≡ none
   along-end k = along-seen (r .next) refl ∙ no-event (r .next) k
@@ -71,4 +71,4 @@ module _ {buf : List ℕ} {st : ParserState} {note : Note} {r : NextNoted} (a : 
         record { above = omega arith; placed = lies .within .placed; ordered = lies .within .ordered; below = omega (arith, lies .within .below, k) }
 
     pub along-on : Along buf t (r .note)
-    along-on = record { reached = lies .reached; noted = rw (along-less .same-end) (says (a .noted) .holds) }
+    along-on = record { reached = lies .reached; noted = rw (along-less .same-end) (says .reads (a .noted) .holds) }

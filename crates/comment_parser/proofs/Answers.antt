@@ -10,7 +10,7 @@ use borrow.Author.Tests.{ltb-false}
 use Rattle.basics.proofs.Laws.{differ}
 use Rattle.records.specs.Answer.{Answer, longest, tooLong, badSpan, spanRefusal}
 use Rattle.records.proofs.Answers.{coincide, readBack, refused-back, span-good}
-use Rattle.comment_parser.specs.Next.{Step, stepAnswer}
+use Rattle.comment_parser.specs.Next.{Outcome, stepAnswer}
 use Rattle.comment_parser.specs.Own.{ownRefusal}
 use Rattle.comment_parser.specs.declared.ParserState.{ParserState}
 use Rattle.comment_parser.specs.declared.CommentItem.{CommentItem}
@@ -22,7 +22,7 @@ given : Option CommentItem → ParserState → Next
 given (some i) t = Event t i
 given none t = End t
 
-stepBack : Step → Next
+stepBack : Outcome → Next
 stepBack s = readBack (λ values. given (s .event) (s .state)) (Refused (s .state)) (s .answer)
 
 step-back : (n : Next) → stepBack (stepAnswer n) ≡ n
@@ -31,7 +31,7 @@ step-back (Event t i) = refl
 step-back (End t) = refl
 step-back (Refused t r) = refused-back (λ values. given none t) (Refused t) r
 
-pub next-one : (s : Step) (x y : Next) → stepAnswer x ≡ s → stepAnswer y ≡ s → x ≡ y
+pub next-one : (s : Outcome) (x y : Next) → stepAnswer x ≡ s → stepAnswer y ≡ s → x ≡ y
 next-one = coincide stepAnswer stepBack step-back
 
 -- none of the tests held

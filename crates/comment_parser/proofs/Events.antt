@@ -1,12 +1,12 @@
 -- The list of events, an event at a time, in any reading; and that an accepted state leads to accepted states alone.
 -- Assumes nothing.
-use Prim.Native.Nat.{ℕ, _≤_}
-use mathlib.Core.Path.{_≡_, refl, sym, _∙_}
+use Prim.Native.Nat.{ℕ}
+use mathlib.Core.Path.{_≡_, refl, sym, ap, _∙_}
 use mathlib.Core.List.{List, [], _∷_}
 use mathlib.Core.Option.{Option, none, some}
 use lib.ListN.{length}
 use Rattle.basics.proofs.Laws.{differ}
-use Rattle.records.specs.Answer.{Answer, stateRefusal, longest}
+use Rattle.records.specs.Answer.{Answer, stateRefusal}
 use Rattle.records.specs.Produced.{grow}
 use Rattle.records.proofs.Answers.{state-accepted, state-good}
 use Rattle.records.proofs.ProducedLaws.{produced-step}
@@ -17,19 +17,16 @@ use Rattle.comment_parser.specs.declared.ParserState.{ParserState}
 use Rattle.comment_parser.specs.declared.CommentItem.{CommentItem}
 use Rattle.comment_parser.specs.declared.Next.{Next}
 use Rattle.comment_parser.specs.declared.Next.the-variants.{Event, End, Refused}
-use Rattle.comment_parser.proofs.Progress.{GoesOn, answered-on}
-
--- a state that `next` takes
-pub record Accepted (buf : List ℕ) (st : ParserState) : Type 0 where
-  pub short : length buf ≤ longest
-  pub inside : st .pos ≤ st .end
-  pub fits : st .end ≤ length buf
+use Rattle.comment_parser.proofs.Turns.{Accepted, GoesOn, answered-on}
 
 module _ (rd : Reading) (buf : List ℕ) (st : ParserState) where
-  -- what the answer to an accepted state is
-  pub next-is : Accepted buf st → nextOf rd buf st ≡ stepAnswer (answered rd buf st)
+  next-is : Accepted buf st → nextOf rd buf st ≡ stepAnswer (answered rd buf st)
   unfolding nextOf
   next-is a = rw (nextOf, ← state-good (length buf) (st .pos) (st .end) (a .short) (a .inside) (a .fits))
+
+  -- what the answer to an accepted state is
+  pub answers : {x : Next} → Accepted buf st → answered rd buf st ≡ x → nextOf rd buf st ≡ stepAnswer x
+  answers a e = next-is a ∙ ap stepAnswer e
 
   refused-none : (r : Option Answer) → stateRefusal (length buf) (st .pos) (st .end) ≡ r → (p : CommentItem × ParserState)
       → seen rd buf st ≡ some p → stateRefusal (length buf) (st .pos) (st .end) ≡ none
@@ -53,6 +50,10 @@ module _ (rd : Reading) (buf : List ℕ) (st : ParserState) where
   pub seen-event : (i : CommentItem) (t : ParserState) → Accepted buf st → answered rd buf st ≡ Event t i → seen rd buf st ≡ some (i, t)
   seen-event i t a e = seen-is a ∙ rw e
 
+  -- and of one that gives none
+  pub seen-end : (t : ParserState) → Accepted buf st → answered rd buf st ≡ End t → seen rd buf st ≡ none
+  seen-end t a e = seen-is a ∙ rw e
+
   from-next : (n : Next) → answered rd buf st ≡ n → (p : CommentItem × ParserState) → paired (stepAnswer n .event) (stepAnswer n .state) ≡ some p → answered rd buf st ≡ Event (p .1) (p .0)
   from-next (Event t i) e p h = e ∙ (let x : (i, t) ≡ p = cc in rw (← x))
   from-next (End t) e p h = absurd (differ cc)
@@ -63,7 +64,7 @@ module _ (rd : Reading) (buf : List ℕ) (st : ParserState) where
 
   -- an event keeps the end, moves on, and leaves less to come
   pub seen-on : (p : CommentItem × ParserState) → seen rd buf st ≡ some p → GoesOn st (p .1)
-  seen-on p h = let a = seen-accepted p h in answered-on rd buf st (a .inside) (a .fits) (p .0) (p .1) (seen-answered p h)
+  seen-on p h = answered-on rd buf st (seen-accepted p h) (p .0) (p .1) (seen-answered p h)
 
 module _ (rd : Reading) (buf : List ℕ) where
   -- from an accepted state `next` never refuses later

@@ -1,9 +1,10 @@
 -- An item's record form: kind, place, start, end. A span alone has its start as place; a place alone has start and end equal to it.
-use Prim.Native.Nat.{ℕ, _≤_}
+use Prim.Native.Nat.{ℕ}
 use Rattle.basics.specs.declared.Span.{Span}
 use Rattle.comment_parser.specs.declared.Placed.{Placed}
 use Rattle.comment_parser.specs.declared.CommentItem.{CommentItem}
-use Rattle.comment_parser.specs.declared.CommentItem.the-variants.{Text, LineBreak, StartMathMode, EndMathMode, MathToken, Label, Url, StartHtml, EndHtml, StartSubscript, EndSubscript, StartItalic, EndItalic, BibTag}
+use Rattle.comment_parser.specs.declared.CommentItem.the-variants.{Text, LineBreak, StartMathMode, EndMathMode, MathToken, Label, Url}
+use Rattle.comment_parser.specs.declared.CommentItem.the-variants.{StartHtml, EndHtml, StartSubscript, EndSubscript, StartItalic, EndItalic, BibTag}
 
 abbrev pub span : ℕ → ℕ → Span
 span a b = record { start = a; end = b }
@@ -12,7 +13,7 @@ span a b = record { start = a; end = b }
 abbrev pub point : ℕ → ℕ → Placed
 point kind at = record { kind = kind; place = at; start = at; end = at }
 
--- a span, and the place of its mark
+-- a span, and its place
 abbrev pub spread : ℕ → ℕ → Span → Placed
 spread kind at s = record { kind = kind; place = at; start = s .start; end = s .end }
 
@@ -32,10 +33,3 @@ placedOf (EndSubscript a) = point 11 a
 placedOf (StartItalic a) = point 12 a
 placedOf (EndItalic a) = point 13 a
 placedOf (BibTag s) = spread 14 (s .start) s
-
--- an item's numbers lie between two places, in order
-pub record Within (low high : ℕ) (p : Placed) : Type 0 where
-  pub above : low ≤ p .place
-  pub placed : p .place ≤ p .start
-  pub ordered : p .start ≤ p .end
-  pub below : p .end ≤ high

@@ -5,4 +5,5 @@ pub mod Pass
 pub mod Next
 pub mod Events
 pub mod Notes
+pub mod Bounds
 pub mod Own

@@ -5,7 +5,7 @@ use mathlib.Core.List.{List}
 use mathlib.Core.Option.{Option, none, some}
 use lib.ListN.{length, take}
 use lib.Dec.{ltb}
-use Rattle.records.specs.Answer.{Answer, bare, refusalAnswer, stateRefusal}
+use Rattle.records.specs.Answer.{Answer, bare, refusalAnswer, unless, stateRefusal}
 use Rattle.byte_rules.specs.Reading.{Reading}
 use Rattle.comment_parser.specs.State.{moved}
 use Rattle.comment_parser.specs.Pass.{runStart, pass, runItem}
@@ -16,12 +16,12 @@ use Rattle.comment_parser.specs.declared.Next.{Next}
 use Rattle.comment_parser.specs.declared.Next.the-variants.{Event, End, Refused}
 
 -- an answer of `next`: document 01's number, the event if one is given, and the state
-pub record Step : Type 0 where
+pub record Outcome : Type 0 where
   pub answer : Answer
   pub event : Option CommentItem
   pub state : ParserState
 
-abbrev pub stepAnswer : Next → Step
+abbrev pub stepAnswer : Next → Outcome
 stepAnswer (Event t i) = record { answer = bare 0; event = some i; state = t }
 stepAnswer (End t) = record { answer = bare 0; event = none; state = t }
 stepAnswer (Refused t r) = record { answer = refusalAnswer r; event = none; state = t }
@@ -41,10 +41,9 @@ readOn rd s st =
 unfoldable pub answered : Reading → List ℕ → ParserState → Next
 answered rd buf st = elim (st .waiting) [ Item i ↦ give st | Nothing ↦ readOn rd (take (st .end) buf) st ]
 
--- a refusal leaves the state as given
-unfoldable pub nextOf : Reading → List ℕ → ParserState → Step
-nextOf rd buf st =
-    elim (stateRefusal (length buf) (st .pos) (st .end)) [
-      | some a ↦ record { answer = a; event = none; state = st }
-      | none ↦ stepAnswer (answered rd buf st)
-    ]
+-- a refusal gives no event, and leaves the state as given
+abbrev pub refusedAs : ParserState → Answer → Outcome
+refusedAs st a = record { answer = a; event = none; state = st }
+
+unfoldable pub nextOf : Reading → List ℕ → ParserState → Outcome
+nextOf rd buf st = unless (stateRefusal (length buf) (st .pos) (st .end)) (refusedAs st) (stepAnswer (answered rd buf st))

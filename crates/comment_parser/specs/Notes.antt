@@ -2,12 +2,15 @@
 use Prim.Native.Nat.{ℕ, _≤_}
 use mathlib.Core.Path.{_≡_}
 use mathlib.Core.List.{List}
-use lib.ListN.{length}
+use mathlib.Core.Option.{some}
+use lib.ListN.{length, take}
+use Rattle.records.specs.Answer.{Answer, stateRefusal}
 use Rattle.byte_rules.specs.Reading.{rust}
 use Rattle.scans.specs.Scan.{scan}
 use Rattle.scans.specs.Notes.{Holds}
+use Rattle.scans.specs.declared.Note.{Note}
 use Rattle.comment_parser.specs.Pass.{passStep}
-use Rattle.comment_parser.specs.Next.{Step, stepAnswer}
+use Rattle.comment_parser.specs.Next.{Outcome, stepAnswer, refusedAs, nextOf}
 use Rattle.comment_parser.specs.declared.ParserState.{ParserState}
 use Rattle.comment_parser.specs.declared.Act.{Act}
 use Rattle.comment_parser.specs.declared.Acted.{Acted}
@@ -28,9 +31,19 @@ pub record Read (s : List ℕ) (a : Next) (r : NextNoted) : Type 0 where
   pub is : r .next ≡ a
   pub holds : Holds s (r .note)
 
-pub record Answers (s : List ℕ) (a : Step) (r : NextNoted) : Type 0 where
+pub record Answers (s : List ℕ) (a : Outcome) (r : NextNoted) : Type 0 where
   pub is : stepAnswer (r .next) ≡ a
   pub holds : Holds s (r .note)
+
+-- a refusal, and the note as given
+pub record Refuses (st : ParserState) (note : Note) (a : Answer) (r : NextNoted) : Type 0 where
+  pub is : stepAnswer (r .next) ≡ refusedAs st a
+  pub same : r .note ≡ note
+
+-- what `next_noted` answers: a state is refused whatever the note is, and else read by a note that holds
+pub record NextBy (buf : List ℕ) (st : ParserState) (note : Note) (r : NextNoted) : Type 0 where
+  pub refuses : (a : Answer) → stateRefusal (length buf) (st .pos) (st .end) ≡ some a → Refuses st note a r
+  pub reads : Holds (take (st .end) buf) note → Answers (take (st .end) buf) (nextOf rust buf st) r
 
 -- a run that is at p may go on at r
 pub record Skipped (s : List ℕ) (st : ParserState) (p r : ℕ) : Type 0 where

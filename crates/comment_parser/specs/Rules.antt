@@ -4,16 +4,17 @@ use Prim.Native.Nat.{ℕ, zero, suc, _+_, _-_}
 use mathlib.Core.Bool.{Bool, true, false, _&&_, _||_}
 use mathlib.Core.List.{List}
 use lib.Dec.{ltb, leb, eqb}
-use lib.ListN.{take, drop}
+use lib.ListN.{length, take, drop}
 use Rattle.byte_rules.specs.Reading.{Reading}
 use Rattle.look.specs.Look.{byteAt, blankAt, closerAt, italicOpenerAt, doubledAt, wordAt}
-use Rattle.scans.specs.Marks.{tick, tilde, lbracket, under, less, lf, space, openHtml, closeHtml}
+use Rattle.scans.specs.Marks.{tick, tilde, lparen, quote, lbracket, under, less, lf, space, openHtml, closeHtml}
 use Rattle.scans.specs.Ends.{blanksEnd, tagEnd, labelEnd, subscriptEnd, italicEnd, isUrl}
 use Rattle.basics.specs.declared.Place.the-variants.{At, Nowhere}
 use Rattle.comment_parser.specs.Item.{span}
 use Rattle.comment_parser.specs.State.{moved, inMath, inHtml, italicTo, subscriptTo}
 use Rattle.comment_parser.specs.declared.CommentItem.{CommentItem}
-use Rattle.comment_parser.specs.declared.CommentItem.the-variants.{LineBreak, StartMathMode, EndMathMode, Label, Url, StartHtml, EndHtml, StartSubscript, EndSubscript, StartItalic, EndItalic, BibTag}
+use Rattle.comment_parser.specs.declared.CommentItem.the-variants.{LineBreak, StartMathMode, EndMathMode, Label, Url, StartHtml}
+use Rattle.comment_parser.specs.declared.CommentItem.the-variants.{EndHtml, StartSubscript, EndSubscript, StartItalic, EndItalic, BibTag}
 use Rattle.comment_parser.specs.declared.Waiting.the-variants.{Item, Nothing}
 use Rattle.comment_parser.specs.declared.ParserState.{ParserState}
 use Rattle.comment_parser.specs.declared.Act.{Act}
@@ -26,7 +27,7 @@ module _ (s : List ℕ) where
 
   -- `(`, `[`, or a `"` that has a blank or the buffer's start before it
   unfoldable pub opensAhead : ℕ → Bool
-  opensAhead q = byteAt s q 40 || byteAt s q lbracket || (byteAt s q 34 && blankBefore q)
+  opensAhead q = byteAt s q lparen || byteAt s q lbracket || (byteAt s q quote && blankBefore q)
 
   -- where the run ends before an opening mark at p: one space is dropped if the run, that space counted, holds at least two bytes and the byte
   -- ahead of the space opens
@@ -83,8 +84,8 @@ module _ (s : List ℕ) (st : ParserState) where
     unfoldable pub htmlRule : Act
     htmlRule =
         elim (st .html) [
-          | true ↦ elim (wordAt s p closeHtml) [ true ↦ Ends p (moved (inHtml st false) (p + 7) (Item (EndHtml p))) | false ↦ One ]
-          | false ↦ elim (wordAt s p openHtml) [ true ↦ Ends p (moved (inHtml st true) (p + 6) (Item (StartHtml p))) | false ↦ One ]
+          | true ↦ elim (wordAt s p closeHtml) [ true ↦ Ends p (moved (inHtml st false) (p + length closeHtml) (Item (EndHtml p))) | false ↦ One ]
+          | false ↦ elim (wordAt s p openHtml) [ true ↦ Ends p (moved (inHtml st true) (p + length openHtml) (Item (StartHtml p))) | false ↦ One ]
         ]
 
     -- `[`: doubled, step two; a tag ends the run

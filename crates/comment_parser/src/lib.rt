@@ -10,15 +10,13 @@ use records::Refusal;
 use records::check_state;
 use scans::Note;
 ghost use mathlib.Core.Path.{_≡_};
-ghost use lib.ListN.{take};
 ghost use Rattle.byte_rules.specs.Reading.{rust};
-ghost use Rattle.scans.specs.Notes.{Holds};
-ghost use Rattle.comment_parser.specs.Item.{placedOf};
+ghost use Rattle.comment_parser.specs.Item.{point, spread, placedOf};
 ghost use Rattle.comment_parser.specs.State.{moved, inMath, inHtml, italicTo, subscriptTo, fresh};
 ghost use Rattle.comment_parser.specs.Next.{stepAnswer, give, nextOf};
-ghost use Rattle.comment_parser.specs.Notes.{Answers};
+ghost use Rattle.comment_parser.specs.Notes.{NextBy};
 
-// An event of a comment: a text or token by its span, a mark by its place, a label or url by its tilde's place and its span.
+// An event of a comment: a text, a token or a tag by its span, a label or url by its tilde's place and its span, any other by its place.
 pub enum CommentItem {
     Text(Span),
     LineBreak(usize),
@@ -78,91 +76,45 @@ impl CommentItem {
         ensures { λ r. ⌜ r ≡ placedOf self ⌝ }
     {
         match self {
-            CommentItem::Text(s) => Placed {
-                kind: CommentItem::TEXT,
-                place: s.start,
-                start: s.start,
-                end: s.end,
-            },
-            CommentItem::LineBreak(a) => Placed {
-                kind: CommentItem::LINE_BREAK,
-                place: a,
-                start: a,
-                end: a,
-            },
-            CommentItem::StartMathMode(a) => Placed {
-                kind: CommentItem::START_MATH_MODE,
-                place: a,
-                start: a,
-                end: a,
-            },
-            CommentItem::EndMathMode(a) => Placed {
-                kind: CommentItem::END_MATH_MODE,
-                place: a,
-                start: a,
-                end: a,
-            },
-            CommentItem::MathToken(s) => Placed {
-                kind: CommentItem::MATH_TOKEN,
-                place: s.start,
-                start: s.start,
-                end: s.end,
-            },
-            CommentItem::Label(a, s) => Placed {
-                kind: CommentItem::LABEL,
-                place: a,
-                start: s.start,
-                end: s.end,
-            },
-            CommentItem::Url(a, s) => Placed {
-                kind: CommentItem::URL,
-                place: a,
-                start: s.start,
-                end: s.end,
-            },
-            CommentItem::StartHtml(a) => Placed {
-                kind: CommentItem::START_HTML,
-                place: a,
-                start: a,
-                end: a,
-            },
-            CommentItem::EndHtml(a) => Placed {
-                kind: CommentItem::END_HTML,
-                place: a,
-                start: a,
-                end: a,
-            },
-            CommentItem::StartSubscript(a) => Placed {
-                kind: CommentItem::START_SUBSCRIPT,
-                place: a,
-                start: a,
-                end: a,
-            },
-            CommentItem::EndSubscript(a) => Placed {
-                kind: CommentItem::END_SUBSCRIPT,
-                place: a,
-                start: a,
-                end: a,
-            },
-            CommentItem::StartItalic(a) => Placed {
-                kind: CommentItem::START_ITALIC,
-                place: a,
-                start: a,
-                end: a,
-            },
-            CommentItem::EndItalic(a) => Placed {
-                kind: CommentItem::END_ITALIC,
-                place: a,
-                start: a,
-                end: a,
-            },
-            CommentItem::BibTag(s) => Placed {
-                kind: CommentItem::BIB_TAG,
-                place: s.start,
-                start: s.start,
-                end: s.end,
-            },
+            CommentItem::Text(s) => spread(CommentItem::TEXT, s.start, s),
+            CommentItem::LineBreak(a) => point(CommentItem::LINE_BREAK, a),
+            CommentItem::StartMathMode(a) => point(CommentItem::START_MATH_MODE, a),
+            CommentItem::EndMathMode(a) => point(CommentItem::END_MATH_MODE, a),
+            CommentItem::MathToken(s) => spread(CommentItem::MATH_TOKEN, s.start, s),
+            CommentItem::Label(a, s) => spread(CommentItem::LABEL, a, s),
+            CommentItem::Url(a, s) => spread(CommentItem::URL, a, s),
+            CommentItem::StartHtml(a) => point(CommentItem::START_HTML, a),
+            CommentItem::EndHtml(a) => point(CommentItem::END_HTML, a),
+            CommentItem::StartSubscript(a) => point(CommentItem::START_SUBSCRIPT, a),
+            CommentItem::EndSubscript(a) => point(CommentItem::END_SUBSCRIPT, a),
+            CommentItem::StartItalic(a) => point(CommentItem::START_ITALIC, a),
+            CommentItem::EndItalic(a) => point(CommentItem::END_ITALIC, a),
+            CommentItem::BibTag(s) => spread(CommentItem::BIB_TAG, s.start, s),
         }
+    }
+}
+
+// A place alone.
+fn point(kind: u32, at: usize) -> Placed
+    ensures { λ r. ⌜ r ≡ point kind at ⌝ }
+{
+    Placed {
+        kind,
+        place: at,
+        start: at,
+        end: at,
+    }
+}
+
+// A span, and its place.
+fn spread(kind: u32, at: usize, s: Span) -> Placed
+    ensures { λ r. ⌜ r ≡ spread kind at s ⌝ }
+{
+    Placed {
+        kind,
+        place: at,
+        start: s.start,
+        end: s.end,
     }
 }
 
@@ -285,9 +237,9 @@ impl ParserState {
     }
 
     // The next event, or the end, with a note on tags that an earlier call over the same text gave, or `Note::nothing()`: if it holds, the answer is
-    // that of `next`, and the note given back holds.
+    // that of `next`, and the note given back holds. What `next` refuses is refused whatever the note is, with the state and the note as given.
     pub fn next_noted(self, buf: &[u8], note: Note) -> NextNoted
-        ensures { λ r. ⌜ (Holds (take (self .end) (now (buf .entry))) note → Answers (take (self .end) (now (buf .entry))) (nextOf rust (now (buf .entry)) self) r) ⌝ }
+        ensures { λ r. ⌜ NextBy (now (buf .entry)) self note r ⌝ }
     {
         let end = self.end;
         let pos = self.pos;

@@ -27,7 +27,9 @@ ghost use Rattle.byte_rules.specs.Reading.{rust};
 ghost use Rattle.look.specs.Look.{byteAt};
 ghost use Rattle.scans.specs.Marks.{lbracket};
 ghost use Rattle.scans.specs.Notes.{Holds};
-ghost use Rattle.comment_parser.specs.Rules.{blankBefore, opensAhead, beforeOpen, afterClose, afterLf, labelItem, tickRule, tildeRule, mathRule, htmlRule, bracketRule, newlineRule, opensItalic, openUnder, underRule, plainRule, textRule, firstRule, stepTo, passAct};
+ghost use Rattle.comment_parser.specs.Rules.{blankBefore, opensAhead, beforeOpen, afterClose, afterLf, labelItem, tickRule, tildeRule, mathRule};
+ghost use Rattle.comment_parser.specs.Rules.{htmlRule, bracketRule, newlineRule, opensItalic, openUnder, underRule};
+ghost use Rattle.comment_parser.specs.Rules.{plainRule, textRule, firstRule, stepTo, passAct};
 ghost use Rattle.comment_parser.specs.Notes.{Acts};
 
 // The buffer's start, or a blank before q.

@@ -15,8 +15,7 @@ use Rattle.records.proofs.Laws.{Wide, laid-long}
 use Rattle.records.proofs.Laying.{Laying, tail, back, tail-is, back-is, laying-starts, laying-goes, all-counted, all-laid}
 use Rattle.comment_parser.specs.State.{fresh}
 use Rattle.comment_parser.specs.Item.{placedOf}
-use Rattle.comment_parser.specs.Next as parser
-use Rattle.comment_parser.specs.Next.{nextOf}
+use Rattle.comment_parser.specs.Next.{Outcome, nextOf}
 use Rattle.comment_parser.specs.Events.{left, paired, seen, eventsOf}
 use Rattle.comment_parser.specs.declared.Placed.{Placed}
 use Rattle.comment_parser.specs.declared.CommentItem.{CommentItem}
@@ -24,9 +23,9 @@ use Rattle.comment_parser.specs.declared.ParserState.{ParserState}
 use Rattle.comment_parser.proofs.Events.{seen-accepted, seen-on, events-on, events-end}
 use Rattle.comment_view.specs.View.{gives}
 use Rattle.events.specs.Events.{eventWidth, placedWords, eventRecord, recordsFrom, eventRecords}
-use Rattle.comment_view.specs.Listed.{stepRecords, ReadyFor, Lays}
-use Rattle.comment_view.specs.declared.Step.{Step}
-use Rattle.comment_view.specs.declared.Step.the-variants.{Event, End, Refused}
+use Rattle.comment_view.specs.Listed.{nextRecords, ReadyFor, Lays}
+use Rattle.comment_view.specs.declared.NextItem.{NextItem}
+use Rattle.comment_view.specs.declared.NextItem.the-variants.{Event, End, Refused}
 use Rattle.comment_view.specs.declared.listed.Listing.{Listing}
 use Rattle.comment_parser.proofs.Reached.{Reached, seen-lies, fresh-reached}
 
@@ -38,7 +37,7 @@ module _ (done : Listing) (p : Placed) (out : List ℕ) (w : Wrote) (wrote : w �
       let u = laid-long eventWidth (placedWords p ∷ []) (tail (done .words) out) (refl, tt) .1 in
       omega (arith, ap (λ (x : Wrote). x .words) wrote, u, ap length (tail-is (done .words) out), length-drop (done .words) out)
 
-  pub lays-one : (s : Step) (i : CommentItem) (last : List ℕ) → s ≡ Event i → p ≡ placedOf i → last ≡ laid eventWidth (placedWords p ∷ []) (tail (done .words) out) → Lays done s out (record { going = true; words = done .words + w .words; count = done .count + w .count }) (back (done .words) out last)
+  pub lays-one : (s : NextItem) (i : CommentItem) (last : List ℕ) → s ≡ Event i → p ≡ placedOf i → last ≡ laid eventWidth (placedWords p ∷ []) (tail (done .words) out) → Lays done s out (record { going = true; words = done .words + w .words; count = done .count + w .count }) (back (done .words) out last)
   lays-one s i last e is h =
       rw e (record {
         goes = refl;
@@ -49,27 +48,27 @@ module _ (done : Listing) (p : Placed) (out : List ℕ) (w : Wrote) (wrote : w �
 
 -- what a step says of the events to come
 module _ (buf : List ℕ) (st t : ParserState) where
-  abbrev found : Step → Option (CommentItem × ParserState)
+  abbrev found : NextItem → Option (CommentItem × ParserState)
   found (Event i) = some (i, t)
   found End = none
   found (Refused r) = none
 
-  seen-is : (r : Step) → gives r t ≡ nextOf rust buf st → seen rust buf st ≡ found r
+  seen-is : (r : NextItem) → gives r t ≡ nextOf rust buf st → seen rust buf st ≡ found r
   unfolding seen
-  seen-is (Event i) e = ap (λ (n : parser.Step). paired (n .event) (n .state)) (sym e)
-  seen-is End e = ap (λ (n : parser.Step). paired (n .event) (n .state)) (sym e)
-  seen-is (Refused r) e = ap (λ (n : parser.Step). paired (n .event) (n .state)) (sym e)
+  seen-is (Event i) e = ap (λ (n : Outcome). paired (n .event) (n .state)) (sym e)
+  seen-is End e = ap (λ (n : Outcome). paired (n .event) (n .state)) (sym e)
+  seen-is (Refused r) e = ap (λ (n : Outcome). paired (n .event) (n .state)) (sym e)
 
-wide : (s : Step) → Wide eventWidth (stepRecords s)
+wide : (s : NextItem) → Wide eventWidth (nextRecords s)
 wide (Event i) = (refl, tt)
 wide End = tt
 wide (Refused w) = tt
 
 -- the records of a step are laid behind the words written
-module _ {all rest : List (List ℕ)} {out₀ out last : List ℕ} {done after : Listing} {r : Step} where
-  laid-on : Laying eventWidth all (stepRecords r ++ rest) out₀ out (done .words) (done .count) → Lays done r out after last → Laying eventWidth all rest out₀ last (after .words) (after .count)
+module _ {all rest : List (List ℕ)} {out₀ out last : List ℕ} {done after : Listing} {r : NextItem} where
+  laid-on : Laying eventWidth all (nextRecords r ++ rest) out₀ out (done .words) (done .count) → Lays done r out after last → Laying eventWidth all rest out₀ last (after .words) (after .count)
   laid-on l h =
-      let ws = stepRecords r in
+      let ws = nextRecords r in
       let at = done .words in
       let same : back at out (laid eventWidth ws (tail at out)) ≡ last = back-is at out _ ∙ ap (λ (x : List ℕ). take at out ++ laid eventWidth ws x) (tail-is at out) ∙ sym (h .leaves) in
       let long : length (tail at out) ≡ length out - at = ap length (tail-is at out) ∙ length-drop at out in
@@ -103,7 +102,7 @@ module _ (buf out₀ : List ℕ) (a z : ℕ) where
   starts = record { laying = laying-starts eventWidth (eventRecords buf a z) out₀; goes = λ g. record { reached = fresh-reached a z; to-end = refl; few = omega arith } }
 
   module _ (st t : ParserState) (done : Listing) (out : List ℕ) (s : Stands st done out) (g : done .going ≡ true) where
-    pub ready : (r : Step) → gives r t ≡ nextOf rust buf st → ReadyFor done r out
+    pub ready : (r : NextItem) → gives r t ≡ nextOf rust buf st → ReadyFor done r out
     ready (Event i) e =
         let h = seen-is buf st t (Event i) e in
         let ok = seen-accepted rust buf st (i, t) h in
@@ -122,16 +121,16 @@ module _ (buf out₀ : List ℕ) (a z : ℕ) where
       Turned = Stands t after last × (size (after .going) t < size (done .going) st)
 
       -- it ends
-      over : (r : Step) → seen rust buf st ≡ none → stepRecords r ≡ [] → after .going ≡ false → Lays done r out after last → Turned
+      over : (r : NextItem) → seen rust buf st ≡ none → nextRecords r ≡ [] → after .going ≡ false → Lays done r out after last → Turned
       over r n none-laid o h =
           let now : Laying eventWidth (eventRecords buf a z) (recordsFrom buf st) out₀ out (done .words) (done .count) = rw g at (s .laying) in
-          let no-more : recordsFrom buf st ≡ stepRecords r ++ [] = ap (map (eventRecord buf)) (events-end rust buf st n) ∙ ap (λ (ws : List (List ℕ)). ws ++ []) (sym none-laid) in
+          let no-more : recordsFrom buf st ≡ nextRecords r ++ [] = ap (map (eventRecord buf)) (events-end rust buf st n) ∙ ap (λ (ws : List (List ℕ)). ws ++ []) (sym none-laid) in
           let l : Laying eventWidth (eventRecords buf a z) [] out₀ last (after .words) (after .count) = laid-on (rw no-more at now) h in (
             record { laying = rw o l; goes = λ x. absurd (differ cc) },
             rw (o, g) (omega arith),
           )
 
-      pub turns : (r : Step) → gives r t ≡ nextOf rust buf st → Lays done r out after last → Turned
+      pub turns : (r : NextItem) → gives r t ≡ nextOf rust buf st → Lays done r out after last → Turned
       turns (Event i) e h =
           let k = seen-is buf st t (Event i) e in
           let on = seen-on rust buf st (i, t) k in

@@ -3,7 +3,8 @@ use Prim.Native.Nat.{ℕ}
 use mathlib.Core.Bool.{Bool}
 use mathlib.Core.List.{List}
 use Rattle.byte_rules.specs.Classes.{isTextEscape, isLabelEscape, isMathEscape}
-use Rattle.unescape.specs.Unescape.{unescaped, part}
+use Rattle.records.specs.Answer.{Answer}
+use Rattle.comment_parser.specs.Own.{ownAnswer, ownLeft}
 use Rattle.comment_parser.specs.declared.ParserState.{ParserState}
 use Rattle.comment_view.specs.declared.unescaping.Form.{Form}
 use Rattle.comment_view.specs.declared.unescaping.Form.the-variants.{Text, Label, Math}
@@ -14,5 +15,10 @@ escapesOf Text st = isTextEscape (st .html)
 escapesOf Label st = isLabelEscape
 escapesOf Math st = isMathEscape
 
-abbrev pub textOf : Form → ParserState → List ℕ → ℕ → ℕ → List ℕ
-textOf form st buf start end = unescaped (escapesOf form st) (part buf start end)
+-- what they answer, and what they leave in the room
+module _ (form : Form) (st : ParserState) (buf : List ℕ) (start end : ℕ) where
+  abbrev pub formAnswer : ℕ → Answer
+  formAnswer room = ownAnswer (escapesOf form st) st buf start end room
+
+  abbrev pub formLeft : List ℕ → List ℕ
+  formLeft room = ownLeft (escapesOf form st) st buf start end room

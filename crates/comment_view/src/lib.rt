@@ -11,54 +11,52 @@ use records::Refusal;
 use records::check_span;
 pub use unescaping::Form;
 ghost use mathlib.Core.Path.{_≡_};
-ghost use lib.ListN.{length};
 ghost use denote.Ref.{now};
 ghost use Rattle.byte_rules.specs.Reading.{rust};
-ghost use Rattle.records.specs.Answer.{checkedAnswer, spanRefusal};
 ghost use Rattle.comment_parser.specs.Next.{nextOf};
-ghost use Rattle.comment_view.specs.View.{gives, viewOf};
+ghost use Rattle.comment_view.specs.View.{gives, openedAnswer, openAnswer, viewOf};
 
 // What a step gives. The state after it is left where the state was.
-pub enum Step {
+pub enum NextItem {
     Event(CommentItem),
     End,
     Refused(Refusal),
 }
 
-// A step, and the state after it.
+// What a step gives, and the state after it.
 struct Stepped {
-    step: Step,
+    next: NextItem,
     state: ParserState,
 }
 
 // The parser's `next`, its answer parted from the state.
 fn read_step(state: ParserState, buf: &[u8]) -> Stepped
-    ensures { λ r. ⌜ gives (r .step) (r .state) ≡ nextOf rust (now (buf .entry)) state ⌝ }
+    ensures { λ r. ⌜ gives (r .next) (r .state) ≡ nextOf rust (now (buf .entry)) state ⌝ }
 {
     let next = state.next(buf);
     match next {
         Next::Event(state, item) => Stepped {
-            step: Step::Event(item),
+            next: NextItem::Event(item),
             state,
         },
         Next::End(state) => Stepped {
-            step: Step::End,
+            next: NextItem::End,
             state,
         },
         Next::Refused(state, why) => Stepped {
-            step: Step::Refused(why),
+            next: NextItem::Refused(why),
             state,
         },
     }
 }
 
 // The next event, or the end. The state in the caller's record moves on; after a refusal (1 or 3) it is as it was.
-pub fn advance(st: &mut ParserState, buf: &[u8]) -> Step
+pub fn advance(st: &mut ParserState, buf: &[u8]) -> NextItem
     ensures { λ r. ⌜ gives r (now (st .exit)) ≡ nextOf rust (now (buf .entry)) (now (st .entry)) ⌝ }
 {
     let n = read_step(*st, buf);
     *st = n.state;
-    n.step
+    n.next
 }
 
 // A buffer, and where a parser of it stands.
@@ -77,7 +75,7 @@ impl<'a> View<'a> {
     // A view of a span. A buffer that is too long (1) and a span that is none of it (2) are refused; the view is made all the same, gives no event
     // and stays as it is (`refused-view` in proofs/Answers.antt).
     pub fn open(buf: &'a [u8], start: usize, end: usize) -> Opened<'a>
-        ensures { λ r. ⌜ (checkedAnswer (r .answer) ≡ spanRefusal (length (now (buf .entry))) start end) × (r .view ≡ viewOf (buf .entry) start end) ⌝ }
+        ensures { λ r. ⌜ (openedAnswer (r .answer) ≡ openAnswer (now (buf .entry)) start end) × (r .view ≡ viewOf (buf .entry) start end) ⌝ }
     {
         let answer = check_span(buf.len(), start, end);
         let state = ParserState::new(start, end);
@@ -88,12 +86,13 @@ impl<'a> View<'a> {
     }
 
     // The next event, or the end. The view moves on; after a refusal (1 or 3) it is as it was.
-    pub fn next_item(&mut self) -> Step
-        ensures { λ r. ⌜ (gives r (now (self .exit) .state) ≡ nextOf rust (now (now (self .entry) .buf)) (now (self .entry) .state)) × (now (self .exit) .buf ≡ now (self .entry) .buf) ⌝ }
+    pub fn next_item(&mut self) -> NextItem
+        ensures { λ r. ⌜ (gives r (now (self .exit) .state) ≡ nextOf rust (now (now (self .entry) .buf)) (now (self .entry) .state))
+            × (now (self .exit) .buf ≡ now (self .entry) .buf) ⌝ }
     {
         let mut state = self.state;
-        let step = advance(&mut state, self.buf);
+        let next = advance(&mut state, self.buf);
         self.state = state;
-        step
+        next
     }
 }

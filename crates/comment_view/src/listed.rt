@@ -1,16 +1,16 @@
 // A whole comment read through a view: its event records, in an area that the caller lends.
-use crate::Step;
+use crate::NextItem;
 use crate::View;
 use events::EVENT_WIDTH;
 use records::Checked;
 use records::Filled;
 use records::check_span;
-use records::lay4;
+use records::lay;
 ghost use mathlib.Core.Path.{_≡_};
 ghost use lib.ListN.{length};
-ghost use Rattle.records.specs.Answer.{filledAnswer, spanRefusal};
-ghost use Rattle.records.specs.Records.{laid, listAnswer, listLeft};
-ghost use Rattle.events.specs.Events.{eventWidth, eventRecords};
+ghost use Rattle.records.specs.Answer.{filledAnswer};
+ghost use Rattle.records.specs.Records.{laid};
+ghost use Rattle.events.specs.Events.{eventWidth, eventRecords, eventsAnswer, eventsLeft};
 ghost use Rattle.comment_view.specs.Listed.{ReadyFor, Lays};
 
 // Where a listing stands: whether it goes on, the words that it has written, and how many events there were.
@@ -21,11 +21,11 @@ pub struct Listing {
 }
 
 // Lays a step's event behind the words written, if it fits.
-fn lay_step(done: Listing, step: Step, out: &mut [u32]) -> Listing
-    requires { ⌜ ReadyFor done step (now out) ⌝ }
-    ensures { λ r. ⌜ Lays done step (now (out .entry)) r (now (out .exit)) ⌝ }
+fn lay_step(done: Listing, next: NextItem, out: &mut [u32]) -> Listing
+    requires { ⌜ ReadyFor done next (now out) ⌝ }
+    ensures { λ r. ⌜ Lays done next (now (out .entry)) r (now (out .exit)) ⌝ }
 {
-    let Step::Event(item) = step else {
+    let NextItem::Event(item) = next else {
         return Listing {
             going: false,
             words: done.words,
@@ -34,12 +34,9 @@ fn lay_step(done: Listing, step: Step, out: &mut [u32]) -> Listing
     };
     let p = item.placed();
     let at = done.words;
-    let wrote = lay4(
+    let wrote = lay(
         &mut out[at..],
-        p.kind,
-        p.place as u32,
-        p.start as u32,
-        p.end as u32,
+        &[p.kind, p.place as u32, p.start as u32, p.end as u32],
     );
     Listing {
         going: true,
@@ -50,7 +47,8 @@ fn lay_step(done: Listing, step: Step, out: &mut [u32]) -> Listing
 
 // Lays the events of a span, and counts them. There are none of a span that is refused.
 fn lay_by_view(buf: &[u8], start: usize, end: usize, out: &mut [u32]) -> usize
-    ensures { λ r. ⌜ (r ≡ length (eventRecords (now (buf .entry)) start end)) × (now (out .exit) ≡ laid eventWidth (eventRecords (now (buf .entry)) start end) (now (out .entry))) ⌝ }
+    ensures { λ r. ⌜ (r ≡ length (eventRecords (now (buf .entry)) start end))
+        × (now (out .exit) ≡ laid eventWidth (eventRecords (now (buf .entry)) start end) (now (out .entry))) ⌝ }
 {
     let opened = View::open(buf, start, end);
     let mut view = opened.view;
@@ -60,8 +58,8 @@ fn lay_by_view(buf: &[u8], start: usize, end: usize, out: &mut [u32]) -> usize
         count: 0,
     };
     while done.going {
-        let step = view.next_item();
-        done = lay_step(done, step, out);
+        let next = view.next_item();
+        done = lay_step(done, next, out);
     }
     done.count
 }
@@ -69,8 +67,8 @@ fn lay_by_view(buf: &[u8], start: usize, end: usize, out: &mut [u32]) -> usize
 // The event records of a span, in `out`: the first that fit, and the full count. A buffer that is too long (1) and a span that is none of it
 // (2) are refused, and nothing is written.
 pub fn events_by_view(buf: &[u8], start: usize, end: usize, out: &mut [u32]) -> Filled
-    ensures answer { λ r. ⌜ filledAnswer r ≡ listAnswer (spanRefusal (length (now (buf .entry))) start end) eventWidth (eventRecords (now (buf .entry)) start end) (length (now (out .entry))) ⌝ }
-    ensures left { λ r. ⌜ now (out .exit) ≡ listLeft (spanRefusal (length (now (buf .entry))) start end) eventWidth (eventRecords (now (buf .entry)) start end) (now (out .entry)) ⌝ }
+    ensures answer { λ r. ⌜ filledAnswer r ≡ eventsAnswer (now (buf .entry)) start end (length (now (out .entry))) ⌝ }
+    ensures left { λ r. ⌜ now (out .exit) ≡ eventsLeft (now (buf .entry)) start end (now (out .entry)) ⌝ }
 {
     if let Checked::Refused(why) = check_span(buf.len(), start, end) {
         return Filled::Refused(why);

@@ -6,9 +6,7 @@ ghost use mathlib.Core.Path.{_≡_};
 ghost use lib.ListN.{length};
 ghost use denote.Ref.{now};
 ghost use Rattle.records.specs.Answer.{filledAnswer};
-ghost use Rattle.records.specs.Records.{textAnswer, textLeft};
-ghost use Rattle.comment_parser.specs.Own.{ownRefusal};
-ghost use Rattle.comment_view.specs.Unescaping.{textOf};
+ghost use Rattle.comment_view.specs.Unescaping.{formAnswer, formLeft};
 
 // What a span is read as.
 pub enum Form {
@@ -25,8 +23,8 @@ fn unescape_as(
     end: usize,
     out: &mut [u8],
 ) -> Filled
-    ensures { λ r. ⌜ (filledAnswer r ≡ textAnswer (ownRefusal (length (now (buf .entry))) st start end) (textOf form st (now (buf .entry)) start end) (length (now (out .entry))))
-        × (now (out .exit) ≡ textLeft (ownRefusal (length (now (buf .entry))) st start end) (textOf form st (now (buf .entry)) start end) (now (out .entry))) ⌝ }
+    ensures { λ r. ⌜ (filledAnswer r ≡ formAnswer form st (now (buf .entry)) start end (length (now (out .entry))))
+        × (now (out .exit) ≡ formLeft form st (now (buf .entry)) start end (now (out .entry))) ⌝ }
 {
     match form {
         Form::Text => st.unescape_text(buf, start, end, out),
@@ -38,8 +36,8 @@ fn unescape_as(
 impl<'a> View<'a> {
     // Unescapes a span that the view's state reaches, a Text in the state's present mode. The answers are those of the parser's own calls.
     pub fn unescape(self, form: Form, start: usize, end: usize, out: &mut [u8]) -> Filled
-        ensures { λ r. ⌜ (filledAnswer r ≡ textAnswer (ownRefusal (length (now (self .entry .buf))) (self .entry .state) start end) (textOf form (self .entry .state) (now (self .entry .buf)) start end) (length (now (out .entry))))
-            × (now (out .exit) ≡ textLeft (ownRefusal (length (now (self .entry .buf))) (self .entry .state) start end) (textOf form (self .entry .state) (now (self .entry .buf)) start end) (now (out .entry))) ⌝ }
+        ensures { λ r. ⌜ (filledAnswer r ≡ formAnswer form (self .entry .state) (now (self .entry .buf)) start end (length (now (out .entry))))
+            × (now (out .exit) ≡ formLeft form (self .entry .state) (now (self .entry .buf)) start end (now (out .entry))) ⌝ }
     {
         unescape_as(self.state, form, self.buf, start, end, out)
     }

@@ -24,7 +24,7 @@ module _ (buf : List ℕ) where
     pub up : i ≤ j
     pub blank : Blanks buf i j
 
-  -- what is dropped before a run, a mark or the end: in math blanks, else nothing
+  -- what is dropped before a run, the event that ends it or the end: in math blanks, else nothing
   pub data Gap : Bool → ℕ → ℕ → Type 0 where
     math-gap : {i j : ℕ} → BlankTo i j → Gap true i j
     no-gap : {m : Bool} {i : ℕ} → Gap m i i
@@ -42,28 +42,29 @@ module _ (buf : List ℕ) (b : ℕ) where
 
   -- An event that ends a run from r at q: the bytes of its mark, its text, what is dropped beside them; whether math holds before and after it, and
   -- the place after it.
-  pub data Mark (r : ℕ) : Bool → ℕ → CommentItem → Bool → ℕ → Type 0 where
-    open-math : {q p : ℕ} → Before buf r q p → getD buf p 0 ≡ 96 → Mark r false q (StartMathMode p) true (p + 1)
-    close-math : {q n : ℕ} → getD buf q 0 ≡ 96 → After (q + 1) n → Mark r true q (EndMathMode q) false n
-    label : {q p x y n : ℕ} → Before buf r q p → getD buf p 0 ≡ 126 → BlankTo buf (p + 1) x → x ≤ y → After y n → Mark r false q (Label p (span x y)) false n
-    url : {q p x y n : ℕ} → Before buf r q p → getD buf p 0 ≡ 126 → BlankTo buf (p + 1) x → x ≤ y → After y n → Mark r false q (Url p (span x y)) false n
-    open-html : {q : ℕ} → Reads buf q (q + 6) (bytes "<HTML>") → Mark r false q (StartHtml q) false (q + 6)
-    close-html : {q : ℕ} → Reads buf q (q + 7) (bytes "</HTML>") → Mark r false q (EndHtml q) false (q + 7)
-    open-subscript : {q : ℕ} → getD buf q 0 ≡ 95 → Mark r false q (StartSubscript q) false (q + 1)
-    open-italic : {q : ℕ} → getD buf q 0 ≡ 95 → Mark r false q (StartItalic q) false (q + 1)
-    close-italic : {q : ℕ} → getD buf q 0 ≡ 95 → Mark r false q (EndItalic q) false (q + 1)
-    tag : {q c : ℕ} → getD buf q 0 ≡ 91 → q + 1 ≤ c → getD buf c 0 ≡ 93 → Mark r false q (BibTag (span (q + 1) c)) false (c + 1)
-    line-break : {q : ℕ} → Mark r false q (LineBreak q) false q
-    close-subscript : {m : Bool} {q : ℕ} → Mark r m q (EndSubscript q) m q
+  pub data Ending (r : ℕ) : Bool → ℕ → CommentItem → Bool → ℕ → Type 0 where
+    open-math : {q p : ℕ} → Before buf r q p → getD buf p 0 ≡ 96 → Ending r false q (StartMathMode p) true (p + 1)
+    close-math : {q n : ℕ} → getD buf q 0 ≡ 96 → After (q + 1) n → Ending r true q (EndMathMode q) false n
+    label : {q p x y n : ℕ} → Before buf r q p → getD buf p 0 ≡ 126 → BlankTo buf (p + 1) x → x ≤ y → After y n → Ending r false q (Label p (span x y)) false n
+    url : {q p x y n : ℕ} → Before buf r q p → getD buf p 0 ≡ 126 → BlankTo buf (p + 1) x → x ≤ y → After y n → Ending r false q (Url p (span x y)) false n
+    open-html : {q : ℕ} → Reads buf q (q + 6) (bytes "<HTML>") → Ending r false q (StartHtml q) false (q + 6)
+    close-html : {q : ℕ} → Reads buf q (q + 7) (bytes "</HTML>") → Ending r false q (EndHtml q) false (q + 7)
+    open-subscript : {q : ℕ} → getD buf q 0 ≡ 95 → Ending r false q (StartSubscript q) false (q + 1)
+    open-italic : {q : ℕ} → getD buf q 0 ≡ 95 → Ending r false q (StartItalic q) false (q + 1)
+    close-italic : {q : ℕ} → getD buf q 0 ≡ 95 → Ending r false q (EndItalic q) false (q + 1)
+    tag : {q c : ℕ} → getD buf q 0 ≡ 91 → q + 1 ≤ c → getD buf c 0 ≡ 93 → Ending r false q (BibTag (span (q + 1) c)) false (c + 1)
+    line-break : {q : ℕ} → Ending r false q (LineBreak q) false q
+    close-subscript : {m : Bool} {q : ℕ} → Ending r m q (EndSubscript q) m q
 
-  -- the span's events: passes, each of a run, or a mark, or a run and the mark that ends it. An event that owns no byte ends a run, and is no pass alone
+  -- the span's events: passes, each of a run, or an event that ends an empty one, or a run and the event that ends it. An event that owns no byte
+  -- ends a run that is not empty
   pub data Account : Bool → ℕ → List CommentItem → Type 0 where
     end : {m : Bool} {i : ℕ} → Gap buf m i b → Account m i []
     run : {m : Bool} {i r q : ℕ} {es : List CommentItem} → Gap buf m i r → r < q → Account m q es → Account m i (runOf m r q ∷ es)
-    mark : {m m′ : Bool} {i q n : ℕ} {c : CommentItem} {es : List CommentItem} → Gap buf m i q → q < n → Mark q m q c m′ n → Account m′ n es → Account m i (c ∷ es)
-    run-mark :
+    ending : {m m′ : Bool} {i q n : ℕ} {c : CommentItem} {es : List CommentItem} → Gap buf m i q → q < n → Ending q m q c m′ n → Account m′ n es → Account m i (c ∷ es)
+    run-ending :
         {m m′ : Bool} {i r q n : ℕ} {c : CommentItem} {es : List CommentItem} →
-        Gap buf m i r → r < q → q ≤ n → Mark r m q c m′ n → Account m′ n es → Account m i (runOf m r q ∷ c ∷ es)
+        Gap buf m i r → r < q → q ≤ n → Ending r m q c m′ n → Account m′ n es → Account m i (runOf m r q ∷ c ∷ es)
 
 -- each takes the reader on
 pub gap-up : {buf : List ℕ} {i j : ℕ} {m : Bool} → Gap buf m i j → i ≤ j

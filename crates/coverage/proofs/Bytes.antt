@@ -9,8 +9,8 @@ use native.Mathlib.Omega.{arith}
 use borrow.Author.Tests.{eqb-true, leb-true}
 use lib.Dec.{eqb, leb}
 use lib.ListN.{getD, length}
-use Rattle.basics.proofs.Laws.{both}
 use Rattle.byte_rules.specs.Classes.{isBlank, isCloser}
+use Rattle.basics.proofs.Laws.{both}
 use Rattle.look.specs.Look.{byteAt, blankAt, closerAt, wordAt}
 use Rattle.look.proofs.Laws.{byte-within, byte-is, blank-within, blank-is, closer-within, closer-is, word-byte}
 use Rattle.scans.specs.Marks.{space, lbracket}
@@ -71,18 +71,17 @@ module _ {s buf : List ℕ} {b : ℕ} (cut : Cut s buf b) where
 
   -- what is dropped before an opening mark at p, and after a closing mark or a label that ends at p
   before-cases :
-      (r p : ℕ) → r ≤ p → (d : Bool) → (leb (r + 2) p && byteAt s (p - 1) space && opensAhead s (p - 2)) ≡ d →
-      Before buf r (elim d [ true ↦ p - 1 | false ↦ p ]) p × (r ≤ elim d [ true ↦ p - 1 | false ↦ p ])
+      (r p : ℕ) → r ≤ p → (d : Bool) → (leb (r + 2) p && byteAt s (p - 1) space && opensAhead s (p - 2)) ≡ d → Before buf r (elim d [ true ↦ p - 1 | false ↦ p ]) p
   before-cases r p h true t =
       let x = both (leb (r + 2) p && byteAt s (p - 1) space) (opensAhead s (p - 2)) t in
       let y = both (leb (r + 2) p) (byteAt s (p - 1) space) (x .0) in
       let l : r + 2 ≤ p = leb-true (r + 2) p (y .0) in
       let z : p - 2 ≡ p - 1 - 1 = omega arith in
       let n : p - 1 + 1 ≡ p = omega arith in
-      (space-before n l (byte-there (p - 1) space (y .1)) (rw z at (ahead-there (p - 2) (x .1))), omega arith)
-  before-cases r p h false t = (none-before, h)
+      space-before n l (byte-there (p - 1) space (y .1)) (rw z at (ahead-there (p - 2) (x .1)))
+  before-cases r p h false t = none-before
 
-  pub before-there : (r p : ℕ) → r ≤ p → Before buf r (beforeOpen s r p) p × (r ≤ beforeOpen s r p)
+  pub before-there : (r p : ℕ) → r ≤ p → Before buf r (beforeOpen s r p) p
   unfolding beforeOpen
   before-there r p h = before-cases r p h (leb (r + 2) p && byteAt s (p - 1) space && opensAhead s (p - 2)) refl
 

@@ -11,7 +11,7 @@ use lib.Dec.{eqb}
 use Rattle.comment_parser.specs.Item.{placedOf}
 use Rattle.comment_parser.specs.declared.CommentItem.{CommentItem}
 use Rattle.coverage.specs.Demand3.{Rising, Few, eventsAt}
-use Rattle.coverage.proofs.Account.{runOf, Mark, Account, end, run, mark, run-mark, open-math, close-math, label, url, open-html, close-html, open-subscript, open-italic, close-italic, tag, line-break, close-subscript, gap-up, before-up, after-up}
+use Rattle.coverage.proofs.Account.{runOf, Ending, Account, end, run, ending, run-ending, open-math, close-math, label, url, open-html, close-html, open-subscript, open-italic, close-italic, tag, line-break, close-subscript, gap-up, before-up, after-up}
 
 rising-from : (b : ℕ) {j k : ℕ} (es : List CommentItem) → j ≤ k → Rising b k es → Rising b j es
 rising-from b [] h r = omega arith
@@ -29,42 +29,42 @@ place-up : (q x n : ℕ) → Placing q x n → x ≤ n
 place-up q x n k = ⊎-elim (λ l. omega arith) (λ l. omega arith) (k .1)
 
 module _ {buf : List ℕ} {b : ℕ} where
-  mark-place : {r q n : ℕ} {m m′ : Bool} {c : CommentItem} → Mark buf b r m q c m′ n → Placing q (placedOf c .place) n
-  mark-place (open-math f t) = (before-up f, inl (omega arith))
-  mark-place (close-math t a) = (omega arith, inl (omega (arith, after-up a)))
-  mark-place (label f t k l a) = (before-up f, inl (omega (arith, k .up, after-up a)))
-  mark-place (url f t k l a) = (before-up f, inl (omega (arith, k .up, after-up a)))
-  mark-place (open-html t) = (omega arith, inl (omega arith))
-  mark-place (close-html t) = (omega arith, inl (omega arith))
-  mark-place (open-subscript t) = (omega arith, inl (omega arith))
-  mark-place (open-italic t) = (omega arith, inl (omega arith))
-  mark-place (close-italic t) = (omega arith, inl (omega arith))
-  mark-place (tag t l u) = (omega arith, inl (omega arith))
-  mark-place line-break = (omega arith, inr (refl, refl))
-  mark-place close-subscript = (omega arith, inr (refl, refl))
+  ending-place : {r q n : ℕ} {m m′ : Bool} {c : CommentItem} → Ending buf b r m q c m′ n → Placing q (placedOf c .place) n
+  ending-place (open-math f t) = (before-up f, inl (omega arith))
+  ending-place (close-math t a) = (omega arith, inl (omega (arith, after-up a)))
+  ending-place (label f t k l a) = (before-up f, inl (omega (arith, k .up, after-up a)))
+  ending-place (url f t k l a) = (before-up f, inl (omega (arith, k .up, after-up a)))
+  ending-place (open-html t) = (omega arith, inl (omega arith))
+  ending-place (close-html t) = (omega arith, inl (omega arith))
+  ending-place (open-subscript t) = (omega arith, inl (omega arith))
+  ending-place (open-italic t) = (omega arith, inl (omega arith))
+  ending-place (close-italic t) = (omega arith, inl (omega arith))
+  ending-place (tag t l u) = (omega arith, inl (omega arith))
+  ending-place line-break = (omega arith, inr (refl, refl))
+  ending-place close-subscript = (omega arith, inr (refl, refl))
 
   account-in : {m : Bool} {i : ℕ} {es : List CommentItem} → Account buf b m i es → i ≤ b
   account-in (end g) = gap-up g
   account-in (run g u a) = omega (arith, gap-up g, account-in a)
-  account-in (mark g u k a) = omega (arith, gap-up g, account-in a)
-  account-in (run-mark g u v k a) = omega (arith, gap-up g, account-in a)
+  account-in (ending g u k a) = omega (arith, gap-up g, account-in a)
+  account-in (run-ending g u v k a) = omega (arith, gap-up g, account-in a)
 
   pub rises : {m : Bool} {i : ℕ} {es : List CommentItem} → Account buf b m i es → Rising b i es
   rises (end g) = gap-up g
   rises (run {m = m} {r = r} {q = q} {es = es} g u a) =
       let z = run-place m r q in (omega (arith, gap-up g), rising-from b es (omega arith) (rises a))
-  rises (mark {es = es} g u k a) = let z = mark-place k in (omega (arith, gap-up g), rising-from b es (place-up _ _ _ z) (rises a))
-  rises (run-mark {m = m} {r = r} {q = q} {es = es} g u v k a) =
+  rises (ending {es = es} g u k a) = let z = ending-place k in (omega (arith, gap-up g), rising-from b es (place-up _ _ _ z) (rises a))
+  rises (run-ending {m = m} {r = r} {q = q} {es = es} g u v k a) =
       let y = run-place m r q in
-      let z = mark-place k in
+      let z = ending-place k in
       (omega (arith, gap-up g), (omega arith, rising-from b es (place-up _ _ _ z) (rises a)))
 
-  -- a mark, or a run that is not empty, brings the reader a byte on, and a pass gives two events at most
+  -- a run that is not empty, or the event that ends an empty one, brings the reader a byte on, and a pass gives two events at most
   pub few : {m : Bool} {i : ℕ} {es : List CommentItem} → Account buf b m i es → Few (b - i) es
   few (end g) = omega arith
   few (run g u a) = omega (arith, gap-up g, few a, account-in a)
-  few (mark g u k a) = omega (arith, gap-up g, few a, account-in a)
-  few (run-mark g u v k a) = omega (arith, gap-up g, few a, account-in a)
+  few (ending g u k a) = omega (arith, gap-up g, few a, account-in a)
+  few (run-ending g u v k a) = omega (arith, gap-up g, few a, account-in a)
 
 -- how many events stand at a place, with one more in front
 at-cases : (P : ℕ → Type 0) (p : ℕ) (c : CommentItem) (es : List CommentItem) → (placedOf c .place ≡ p → P (suc (eventsAt p es))) →
@@ -108,12 +108,12 @@ spread : {buf : List ℕ} {b : ℕ} {m : Bool} {i : ℕ} {es : List CommentItem}
 spread (end g) = record { sparse = record { below = λ p u. refl; two = λ p. omega arith }; one = omega arith }
 spread (run {m = m} {r = r} {q = q} g u a) =
     let z = run-place m r q in owner (runOf m r q) (omega (arith, gap-up g)) (omega arith) (spread a .sparse)
-spread (mark {c = c} g u k a) =
-    let z = mark-place k in
+spread (ending {c = c} g u k a) =
+    let z = ending-place k in
     ⊎-elim (λ l. owner c (omega (arith, gap-up g)) l (spread a .sparse)) (λ l. absurd (omega arith)) (z .1)
-spread (run-mark {m = m} {r = r} {q = q} {n = n} {c = c} {es = es} g u v k a) =
+spread (run-ending {m = m} {r = r} {q = q} {n = n} {c = c} {es = es} g u v k a) =
     let y = run-place m r q in
-    let z = mark-place k in
+    let z = ending-place k in
     let s : Sparse q (c ∷ es) =
     ⊎-elim
     (λ l. owner c (z .0) l (spread a .sparse) .sparse)

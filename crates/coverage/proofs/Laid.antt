@@ -13,23 +13,23 @@ use Rattle.comment_parser.specs.Item.{span}
 use Rattle.comment_parser.specs.declared.CommentItem.{CommentItem}
 use Rattle.comment_parser.specs.declared.CommentItem.the-variants.{Text, MathToken}
 use Rattle.coverage.specs.Demand3.{All, whole, begins, ends, inMathAfter, layout, TokenMarkOrEnd, a-token, a-mark, the-end, Opening, opens-math, opens-label, opens-url, Closing, closes-math, closes-label, closes-url, Blanks, Dropped, nothing, in-math, before-opening, after-closing, Reads, Fits}
-use Rattle.coverage.proofs.Account.{runOf, Gap, math-gap, no-gap, Before, space-before, none-before, After, space-after, none-after, Mark, Account, end, run, mark, run-mark, open-math, close-math, label, url, open-html, close-html, open-subscript, open-italic, close-italic, tag, line-break, close-subscript}
+use Rattle.coverage.proofs.Account.{runOf, Gap, math-gap, no-gap, Before, space-before, none-before, After, space-after, none-after, Ending, Account, end, run, ending, run-ending, open-math, close-math, label, url, open-html, close-html, open-subscript, open-italic, close-italic, tag, line-break, close-subscript}
 use Rattle.coverage.proofs.Tilings.{all-append, Tiled, tiled-append}
 
 -- after skipped blanks in math stands a token, a closing backtick or the end: an event that owns no byte follows a run at once
-mark-next : {buf : List ℕ} {b r q n : ℕ} {m m′ : Bool} {c : CommentItem} → Mark buf b r m q c m′ n → m ≡ true → q < n → TokenMarkOrEnd (some c)
-mark-next (open-math f t) h z = clash refl h
-mark-next (close-math t a) h z = a-mark
-mark-next (label f t k l a) h z = clash refl h
-mark-next (url f t k l a) h z = clash refl h
-mark-next (open-html t) h z = clash refl h
-mark-next (close-html t) h z = clash refl h
-mark-next (open-subscript t) h z = clash refl h
-mark-next (open-italic t) h z = clash refl h
-mark-next (close-italic t) h z = clash refl h
-mark-next (tag t l u) h z = clash refl h
-mark-next line-break h z = clash refl h
-mark-next close-subscript h z = absurd (omega arith)
+ending-next : {buf : List ℕ} {b r q n : ℕ} {m m′ : Bool} {c : CommentItem} → Ending buf b r m q c m′ n → m ≡ true → q < n → TokenMarkOrEnd (some c)
+ending-next (open-math f t) h z = clash refl h
+ending-next (close-math t a) h z = a-mark
+ending-next (label f t k l a) h z = clash refl h
+ending-next (url f t k l a) h z = clash refl h
+ending-next (open-html t) h z = clash refl h
+ending-next (close-html t) h z = clash refl h
+ending-next (open-subscript t) h z = clash refl h
+ending-next (open-italic t) h z = clash refl h
+ending-next (close-italic t) h z = clash refl h
+ending-next (tag t l u) h z = clash refl h
+ending-next line-break h z = clash refl h
+ending-next close-subscript h z = absurd (omega arith)
 
 run-next : (m : Bool) (r q : ℕ) → m ≡ true → TokenMarkOrEnd (some (runOf m r q))
 run-next true r q h = a-token
@@ -64,7 +64,7 @@ module _ (buf : List ℕ) (b : ℕ) where
       record { up = omega arith; blank = one-blank q p z s; dropped = before-opening (record { opening = o; one = z; space = s; two-bytes = l; ahead = a }) }
   before-between none-before o = empty
 
-  -- with no run nothing is dropped before a mark
+  -- with no run nothing is dropped before the event
   before-straight : {r q p : ℕ} → Before buf r q p → r ≡ q → p ≡ q
   before-straight (space-before n l s a) h = absurd (omega arith)
   before-straight none-before h = refl
@@ -84,8 +84,8 @@ module _ (buf : List ℕ) (b : ℕ) where
   head straight (math-gap g) f = record { up = g .up; blank = g .blank; dropped = in-math (f refl) }
   head straight no-gap f = empty
 
-  -- a mark after a run from r to q
-  record MarkLaid (r : ℕ) (m : Bool) (q : ℕ) (c : CommentItem) (m′ : Bool) (n : ℕ) : Type 0 where
+  -- the event that ends a run from r to q
+  record EndingLaid (r : ℕ) (m : Bool) (q : ℕ) (c : CommentItem) (m′ : Bool) (n : ℕ) : Type 0 where
     pub before : Between m (some (runOf m r q)) (some c) q (begins c)
     pub straight-if : r ≡ q → begins c ≡ q
     pub tiles : Tiled (begins c) (ends c) (whole c)
@@ -93,25 +93,25 @@ module _ (buf : List ℕ) (b : ℕ) where
     pub holds : All (Fits buf b) (whole c)
     pub mode : inMathAfter c m ≡ m′
 
-  mark-laid : {r q n : ℕ} {m m′ : Bool} {c : CommentItem} → Mark buf b r m q c m′ n → MarkLaid r m q c m′ n
-  mark-laid (open-math {p = p} f t) =
+  ending-laid : {r q n : ℕ} {m m′ : Bool} {c : CommentItem} → Ending buf b r m q c m′ n → EndingLaid r m q c m′ n
+  ending-laid (open-math {p = p} f t) =
       record { before = before-between f opens-math; straight-if = before-straight f; tiles = omega arith; leads = on-to (omega arith); holds = (byte-reads p 96 t, tt); mode = refl }
-  mark-laid (close-math {q = q} t a) =
+  ending-laid (close-math {q = q} t a) =
       record { before = empty; straight-if = λ _. refl; tiles = omega arith; leads = behind closes-math a; holds = (byte-reads q 96 t, tt); mode = refl }
-  mark-laid (label {p = p} f t k l a) =
+  ending-laid (label {p = p} f t k l a) =
       record { before = before-between f opens-label; straight-if = before-straight f; tiles = omega (arith, k .up); leads = behind closes-label a; holds = (byte-reads p 126 t, (k .blank, (tt, tt))); mode = refl }
-  mark-laid (url {p = p} f t k l a) =
+  ending-laid (url {p = p} f t k l a) =
       record { before = before-between f opens-url; straight-if = before-straight f; tiles = omega (arith, k .up); leads = behind closes-url a; holds = (byte-reads p 126 t, (k .blank, (tt, tt))); mode = refl }
-  mark-laid (open-html t) = record { before = empty; straight-if = λ _. refl; tiles = omega arith; leads = on-to (omega arith); holds = (t, tt); mode = refl }
-  mark-laid (close-html t) = record { before = empty; straight-if = λ _. refl; tiles = omega arith; leads = on-to (omega arith); holds = (t, tt); mode = refl }
-  mark-laid (open-subscript {q = q} t) = record { before = empty; straight-if = λ _. refl; tiles = omega arith; leads = on-to (omega arith); holds = (byte-reads q 95 t, tt); mode = refl }
-  mark-laid (open-italic {q = q} t) = record { before = empty; straight-if = λ _. refl; tiles = omega arith; leads = on-to (omega arith); holds = (byte-reads q 95 t, tt); mode = refl }
-  mark-laid (close-italic {q = q} t) = record { before = empty; straight-if = λ _. refl; tiles = omega arith; leads = on-to (omega arith); holds = (byte-reads q 95 t, tt); mode = refl }
-  mark-laid (tag {q = q} {c = c} t l u) =
+  ending-laid (open-html t) = record { before = empty; straight-if = λ _. refl; tiles = omega arith; leads = on-to (omega arith); holds = (t, tt); mode = refl }
+  ending-laid (close-html t) = record { before = empty; straight-if = λ _. refl; tiles = omega arith; leads = on-to (omega arith); holds = (t, tt); mode = refl }
+  ending-laid (open-subscript {q = q} t) = record { before = empty; straight-if = λ _. refl; tiles = omega arith; leads = on-to (omega arith); holds = (byte-reads q 95 t, tt); mode = refl }
+  ending-laid (open-italic {q = q} t) = record { before = empty; straight-if = λ _. refl; tiles = omega arith; leads = on-to (omega arith); holds = (byte-reads q 95 t, tt); mode = refl }
+  ending-laid (close-italic {q = q} t) = record { before = empty; straight-if = λ _. refl; tiles = omega arith; leads = on-to (omega arith); holds = (byte-reads q 95 t, tt); mode = refl }
+  ending-laid (tag {q = q} {c = c} t l u) =
       let z : q + 1 - 1 ≡ q = omega arith in
       record { before = rw z empty; straight-if = λ _. z; tiles = omega arith; leads = on-to (omega arith); holds = (rw z (byte-reads q 91 t), (tt, (byte-reads c 93 u, tt))); mode = refl }
-  mark-laid line-break = record { before = empty; straight-if = λ _. refl; tiles = omega arith; leads = on-to (omega arith); holds = tt; mode = refl }
-  mark-laid close-subscript = record { before = empty; straight-if = λ _. refl; tiles = omega arith; leads = on-to (omega arith); holds = tt; mode = refl }
+  ending-laid line-break = record { before = empty; straight-if = λ _. refl; tiles = omega arith; leads = on-to (omega arith); holds = tt; mode = refl }
+  ending-laid close-subscript = record { before = empty; straight-if = λ _. refl; tiles = omega arith; leads = on-to (omega arith); holds = tt; mode = refl }
 
   -- one event more in front
   cons :
@@ -130,13 +130,13 @@ module _ (buf : List ℕ) (b : ℕ) where
   cons-run true u d l = cons (MathToken _) d (omega arith) (tt, tt) refl l
   cons-run false u d l = cons (Text _) d (omega arith) (tt, tt) refl l
 
-  cons-mark :
-      {r q n p : ℕ} {m m′ : Bool} {prev : Option CommentItem} {c : CommentItem} {es : List CommentItem} → MarkLaid r m q c m′ n → Between m prev (some c) p (begins c) →
+  cons-ending :
+      {r q n p : ℕ} {m m′ : Bool} {prev : Option CommentItem} {c : CommentItem} {es : List CommentItem} → EndingLaid r m q c m′ n → Between m prev (some c) p (begins c) →
       Laid m′ (some c) (ends c) es → Laid m prev p (c ∷ es)
-  cons-mark k d l = cons _ d (k .tiles) (k .holds) (k .mode) l
+  cons-ending k d l = cons _ d (k .tiles) (k .holds) (k .mode) l
 
   pub laid : {m : Bool} {prev : Option CommentItem} {p n : ℕ} {es : List CommentItem} → Account buf b m n es → Lead m prev p n → Laid m prev p es
   laid (end g) f = let d = head f g (λ _. the-end) in record { tiles = (refl, d .up, refl); holds = ((d .blank, d .dropped), tt) }
   laid (run {m = m} {r = r} {q = q} g u a) f = cons-run m u (head f g (run-next m r q)) (laid a straight)
-  laid (mark g u k a) f = let d = mark-laid k in cons-mark d (rw (d .straight-if refl) (head f g (λ h. mark-next k h u))) (laid a (d .leads))
-  laid (run-mark {m = m} {r = r} {q = q} g u v k a) f = let d = mark-laid k in cons-run m u (head f g (run-next m r q)) (cons-mark d (d .before) (laid a (d .leads)))
+  laid (ending g u k a) f = let d = ending-laid k in cons-ending d (rw (d .straight-if refl) (head f g (λ h. ending-next k h u))) (laid a (d .leads))
+  laid (run-ending {m = m} {r = r} {q = q} g u v k a) f = let d = ending-laid k in cons-run m u (head f g (run-next m r q)) (cons-ending d (d .before) (laid a (d .leads)))

@@ -6,24 +6,24 @@ use native.Mathlib.Omega.{arith}
 use Rattle.comment_parser.specs.Events.{eventsOf}
 use Rattle.coverage.specs.Demand3.{pieces, EveryByteHasOneOwner, EqualEventsEqualBytes}
 use Rattle.coverage.proofs.Tilings.{tiled-in, exactly-one}
-use Rattle.coverage.proofs.Told.{told}
+use Rattle.coverage.proofs.Told.{read-to-end, accounts}
 use Rattle.coverage.proofs.Laid.{laid, straight}
 use Rattle.coverage.proofs.Counts.{rises, few, two-at}
 use Rattle.coverage.proofs.TwoComments.{agree-at, texts}
 
 pub every-byte-has-one-owner : EveryByteHasOneOwner
 every-byte-has-one-owner rd buf a b k =
-    let t = told rd buf b a (k .short) (k .ordered) (k .fits) in
-    let l = laid buf b (t .account) straight in
+    let t = accounts buf b rd (k .fits) a (k .short) (k .ordered) in
+    let l = laid buf b t straight in
     let xs = pieces a b (eventsOf rd buf a b) in
     record {
-      read-to-end = t .steps;
+      read-to-end = read-to-end rd buf a b (k .short) (k .ordered) (k .fits);
       each-byte = λ p i j. exactly-one p a b xs (l .tiles) i j;
       in-span = tiled-in a a b xs (omega arith) (l .tiles);
       each-piece = l .holds;
-      in-order = rises (t .account);
-      at-most-two = few (t .account);
-      two-at-a-place = two-at (t .account);
+      in-order = rises t;
+      at-most-two = few t;
+      two-at-a-place = two-at t;
     }
 
 pub equal-events-equal-bytes : EqualEventsEqualBytes

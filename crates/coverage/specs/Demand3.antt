@@ -20,7 +20,8 @@ use Rattle.comment_parser.specs.Events.{eventsOf}
 use Rattle.basics.specs.declared.Span.{Span}
 use Rattle.comment_parser.specs.declared.ParserState.{ParserState}
 use Rattle.comment_parser.specs.declared.CommentItem.{CommentItem}
-use Rattle.comment_parser.specs.declared.CommentItem.the-variants.{Text, LineBreak, StartMathMode, EndMathMode, MathToken, Label, Url, StartHtml, EndHtml, StartSubscript, EndSubscript, StartItalic, EndItalic, BibTag}
+use Rattle.comment_parser.specs.declared.CommentItem.the-variants.{Text, LineBreak, StartMathMode, EndMathMode, MathToken, Label, Url}
+use Rattle.comment_parser.specs.declared.CommentItem.the-variants.{StartHtml, EndHtml, StartSubscript, EndSubscript, StartItalic, EndItalic, BibTag}
 
 -- LISTS. Of each element; of some; of exactly one, and not of any other.
 

@@ -5,18 +5,16 @@ use mathlib.Core.Path.{_≡_, refl, ap}
 use mathlib.Core.List.{List, [], _∷_, map}
 use mathlib.Core.Option.{none, some}
 use native.Mathlib.Omega.{arith}
-use lib.ListN.{length, take}
+use lib.ListN.{length}
 use Rattle.byte_rules.specs.Reading.{rust}
-use Rattle.scans.specs.Notes.{Holds}
 use Rattle.scans.specs.declared.Note.{Note}
 use Rattle.records.specs.Answer.{longest}
 use Rattle.records.specs.Records.{laid, wroteOf}
 use Rattle.records.specs.declared.Wrote.{Wrote}
 use Rattle.records.proofs.Laying.{Laying, tail, back, laying-starts, laying-wrote}
 use Rattle.comment_parser.specs.State.{fresh}
-use Rattle.comment_parser.specs.Next.{nextOf}
 use Rattle.comment_parser.specs.Events.{left, seen, eventsOf}
-use Rattle.comment_parser.specs.Notes.{Answers}
+use Rattle.comment_parser.specs.Notes.{NextBy}
 use Rattle.comment_parser.specs.declared.CommentItem.{CommentItem}
 use Rattle.comment_parser.specs.declared.Next.the-variants.{Event}
 use Rattle.comment_parser.specs.declared.NextNoted.{NextNoted}
@@ -46,7 +44,7 @@ going-starts buf start end out note z h =
 module _ {buf : List ℕ} {start end : ℕ} {out₀ out : List ℕ} {st : ParserState} {note : Note} {at n : ℕ} (g : Going buf start end out₀ out st note at n) where
   -- a turn: an event's record was laid in the tail, and `last` is the tail since
   pub going-on :
-      {r : NextNoted} → (Holds (take (st .end) buf) note → Answers (take (st .end) buf) (nextOf rust buf st) r)
+      {r : NextNoted} → NextBy buf st note r
       → {i : CommentItem} {t : ParserState} → r .next ≡ Event t i
       → {w : Wrote} → w ≡ wroteOf eventWidth (eventRecord buf i ∷ []) (length (tail at out))
       → {last : List ℕ} → last ≡ laid eventWidth (eventRecord buf i ∷ []) (tail at out)

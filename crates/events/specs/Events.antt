@@ -1,6 +1,9 @@
 -- The event records of a span: one for each event of the list that demand 3 speaks of.
 use Prim.Native.Nat.{ℕ}
 use mathlib.Core.List.{List, [], _∷_, map}
+use lib.ListN.{length}
+use Rattle.records.specs.Answer.{Answer, spanRefusal}
+use Rattle.records.specs.Records.{listAnswer, listLeft}
 use Rattle.byte_rules.specs.Reading.{rust}
 use Rattle.comment_parser.specs.Item.{placedOf}
 use Rattle.comment_parser.specs.Events.{eventsFrom, eventsOf}
@@ -27,3 +30,10 @@ recordsFrom buf st = map (eventRecord buf) (eventsFrom rust buf st)
 -- the records of a span's events
 abbrev pub eventRecords : List ℕ → ℕ → ℕ → List (List ℕ)
 eventRecords buf start end = map (eventRecord buf) (eventsOf rust buf start end)
+
+-- what a call that lists a span's events answers, and what it leaves in the room
+abbrev pub eventsAnswer : List ℕ → ℕ → ℕ → ℕ → Answer
+eventsAnswer buf start end room = listAnswer (spanRefusal (length buf) start end) eventWidth (eventRecords buf start end) room
+
+abbrev pub eventsLeft : List ℕ → ℕ → ℕ → List ℕ → List ℕ
+eventsLeft buf start end room = listLeft (spanRefusal (length buf) start end) eventWidth (eventRecords buf start end) room

@@ -6,15 +6,16 @@ use records::Checked;
 use records::Filled;
 use records::Wrote;
 use records::check_span;
-use records::lay4;
+use records::lay;
 use scans::Note;
 ghost use mathlib.Core.Path.{_≡_};
 ghost use mathlib.Core.List.{[], _∷_};
 ghost use lib.ListN.{length};
-ghost use Rattle.records.specs.Answer.{longest, filledAnswer, spanRefusal};
-ghost use Rattle.records.specs.Records.{laid, wroteOf, listAnswer, listLeft};
-ghost use Rattle.comment_parser.specs.Item.{placedOf, Within};
-ghost use Rattle.events.specs.Events.{eventWidth, placedWords, eventRecords};
+ghost use Rattle.records.specs.Answer.{longest, filledAnswer};
+ghost use Rattle.records.specs.Records.{laid, wroteOf};
+ghost use Rattle.comment_parser.specs.Item.{placedOf};
+ghost use Rattle.comment_parser.specs.Bounds.{Within};
+ghost use Rattle.events.specs.Events.{eventWidth, placedWords, eventsAnswer, eventsLeft};
 
 // How many words an event record has: kind, place, start, end.
 pub const EVENT_WIDTH: usize = 4;
@@ -26,14 +27,17 @@ fn lay_event(room: &mut [u32], item: CommentItem) -> Wrote
     ensures left { λ r. ⌜ now (room .exit) ≡ laid eventWidth (placedWords (placedOf item) ∷ []) (now (room .entry)) ⌝ }
 {
     let p = item.placed();
-    lay4(room, p.kind, p.place as u32, p.start as u32, p.end as u32)
+    lay(
+        room,
+        &[p.kind, p.place as u32, p.start as u32, p.end as u32],
+    )
 }
 
 // The event records of the span from `start` to `end` of `buf`, in `out`: the first that fit, and the full count. A buffer that is too
 // long (1) and a span that is none of it (2) are refused, and nothing is written.
 pub fn events(buf: &[u8], start: usize, end: usize, out: &mut [u32]) -> Filled
-    ensures answer { λ r. ⌜ filledAnswer r ≡ listAnswer (spanRefusal (length (now (buf .entry))) start end) eventWidth (eventRecords (now (buf .entry)) start end) (length (now (out .entry))) ⌝ }
-    ensures left { λ r. ⌜ now (out .exit) ≡ listLeft (spanRefusal (length (now (buf .entry))) start end) eventWidth (eventRecords (now (buf .entry)) start end) (now (out .entry)) ⌝ }
+    ensures answer { λ r. ⌜ filledAnswer r ≡ eventsAnswer (now (buf .entry)) start end (length (now (out .entry))) ⌝ }
+    ensures left { λ r. ⌜ now (out .exit) ≡ eventsLeft (now (buf .entry)) start end (now (out .entry)) ⌝ }
 {
     if let Checked::Refused(why) = check_span(buf.len(), start, end) {
         return Filled::Refused(why);

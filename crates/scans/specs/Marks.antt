@@ -9,6 +9,12 @@ tick = 96
 abbrev pub tilde : ℕ
 tilde = 126
 
+abbrev pub lparen : ℕ
+lparen = 40
+
+abbrev pub quote : ℕ
+quote = 34
+
 abbrev pub lbracket : ℕ
 lbracket = 91
 

@@ -6,11 +6,10 @@ use mathlib.Core.Bool.{Bool, true}
 use mathlib.Core.List.{List, [], _∷_, _++_, append-nil}
 use mathlib.Core.Option.{none, some}
 use native.Mathlib.Omega.{arith}
-use lib.ListN.{length, take}
+use lib.ListN.{length}
 use types.Run.{OneOf, miss}
 use denote.Enum.Declared.{tagOf}
 use Rattle.byte_rules.specs.Reading.{rust}
-use Rattle.scans.specs.Notes.{Holds}
 use Rattle.scans.specs.declared.Note.{Note}
 use Rattle.basics.specs.declared.Place.{Place}
 use Rattle.basics.specs.declared.Place.the-variants.{At, Nowhere}
@@ -18,11 +17,11 @@ use Rattle.records.specs.Answer.{longest}
 use Rattle.records.specs.Records.{laid}
 use Rattle.records.specs.declared.Wrote.{Wrote}
 use Rattle.records.proofs.Laying.{Laying, tail, back, laying-starts, laying-wrote, all-counted, all-laid}
-use Rattle.comment_parser.specs.Item.{placedOf, Within}
+use Rattle.comment_parser.specs.Item.{placedOf}
+use Rattle.comment_parser.specs.Bounds.{Within}
 use Rattle.comment_parser.specs.State.{fresh}
-use Rattle.comment_parser.specs.Next.{nextOf}
 use Rattle.comment_parser.specs.Events.{left, seen, eventsFrom, eventsOf}
-use Rattle.comment_parser.specs.Notes.{Answers}
+use Rattle.comment_parser.specs.Notes.{NextBy}
 use Rattle.comment_parser.specs.declared.CommentItem.{CommentItem}
 use Rattle.comment_parser.specs.declared.CommentItem.the-variants.{Text, LineBreak, StartMathMode, EndMathMode, MathToken, Label, Url, StartHtml, EndHtml, StartSubscript, EndSubscript, StartItalic, EndItalic, BibTag}
 use Rattle.comment_parser.specs.declared.Next.the-variants.{Event}
@@ -150,7 +149,7 @@ going-starts n buf start end out note z h = record {
 module _ {n : Names} {buf : List ℕ} {start end : ℕ} {out₀ out : List ℕ} {st : ParserState} {note : Note} {m : Modes} {at k : ℕ} (g : Going n buf start end out₀ out st note m at k) where
   -- a turn: an event's records were laid in the tail, and `last` is the tail since
   pub going-on :
-      (r : NextNoted) → (Holds (take (st .end) buf) note → Answers (take (st .end) buf) (nextOf rust buf st) r)
+      (r : NextNoted) → NextBy buf st note r
       → (i : CommentItem) (t : ParserState) → r .next ≡ Event t i
       → (html : Bool) → html ≡ isOpen (m .html)
       → (w : Wrote) (last : List ℕ) → Did (itemDiags buf n html i) (tail at out) last w
@@ -177,7 +176,7 @@ module _ {n : Names} {buf : List ℕ} {start end : ℕ} {out₀ out : List ℕ} 
       )
 
   -- an event lies in the buffer
-  pub going-item : (r : NextNoted) → (Holds (take (st .end) buf) note → Answers (take (st .end) buf) (nextOf rust buf st) r)
+  pub going-item : (r : NextNoted) → NextBy buf st note r
       → (i : CommentItem) (t : ParserState) → r .next ≡ Event t i → Within 0 (length buf) (placedOf i)
   going-item r says i t e =
       let on = along-event (g .along) says e in

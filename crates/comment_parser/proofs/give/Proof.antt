@@ -1,3 +1,5 @@
+-- `give` meets its contract.
+-- Assumes nothing.
 use borrow.Author.Needs.{needs}
 use Rattle.comment_parser.specs.Next.{give}
 use Rattle.comment_parser.proofs.give.Statement.{statement}

@@ -48,11 +48,11 @@ use Rattle.comment_parser.specs.declared.ParserState.{ParserState}
 use Rattle.comment_view.specs.declared.Stepped.{Stepped}
 use Rattle.comment_parser.proofs.ParserState as T
 use Rattle.comment_parser.proofs.ParserState.Laws as T′
-use Rattle.comment_view.proofs.Step as S
-use Rattle.comment_view.proofs.Step.Laws as S′
+use Rattle.comment_view.proofs.NextItem as S
+use Rattle.comment_view.proofs.NextItem.Laws as S′
 use Rattle.comment_view.proofs.Stepped as Z
 use Rattle.comment_view.proofs.Stepped.Laws as Z′
-use Rattle.comment_view.proofs.Machine.{val, step-val, of-step, of-state}
+use Rattle.comment_view.proofs.Machine.{val, next-val, of-next, of-state}
 use Rattle.comment_view.proofs.read_step as step
 use Rattle.comment_view.proofs.read_step.Symbol as step-def
 use Rattle.comment_view.proofs.read_step.Symbol.{name as #comment-view·read-step}
@@ -82,7 +82,7 @@ module _ {M : Type 1} (𝓤 : URA M) (H : Heap 𝓤) (A : Atoms 𝓤) (W : Given
 
   -- what `read_step` says
   abbrev Said : Stepped → Type 0
-  Said r = gives (r .step) (r .state) ≡ nextOf rust (now s) h
+  Said r = gives (r .next) (r .state) ≡ nextOf rust (now s) h
 
   abbrev Post : Val → SProp 𝓤
   Post = walkOf 𝓤 H A advance.ended stayed (advance.clauses 𝓤 H A at-mem run) .post (((κ, (κ′, tt)), (q, (q′, tt)), tt, x, at), tt)
@@ -108,15 +108,15 @@ module _ {M : Type 1} (𝓤 : URA M) (H : Heap 𝓤) (A : Atoms 𝓤) (W : Given
   said : (r : Stepped) → ent 𝓤 (ensured 𝓤 H A step.ended (step.clauses 𝓤 H A at-mem run) (κ′, tt) (h, (s, tt)) tt r) (fact 𝓤 (Said r))
   said r = exE 𝓤 _ (λ ws. snd∗ 𝓤 (sem 𝓤 H A (lasts step.ended (κ′, tt) (h, (s, tt)) ws)) (fact 𝓤 (Said r)))
 
-  exits : (r : Stepped) → Said r → Is S.the-row (r .step) (step-val (r .step) ∷ [])
-      → ent 𝓤 (⋆ 𝓤 H A (‵ (fobs γ (T.the-row .coded .code (r .state))) ∷ ‵ (fbor κ (Body (mem T.the-row) b o γ)) ∷ ‵ (flft κ q) ∷ (‵ (flft κ′ q′) ⊛ ‵ ftrue) ∷ ‵ Own ∷ [])) (Post (step-val (r .step)))
+  exits : (r : Stepped) → Said r → Is S.the-row (r .next) (next-val (r .next) ∷ [])
+      → ent 𝓤 (⋆ 𝓤 H A (‵ (fobs γ (T.the-row .coded .code (r .state))) ∷ ‵ (fbor κ (Body (mem T.the-row) b o γ)) ∷ ‵ (flft κ q) ∷ (‵ (flft κ′ q′) ⊛ ‵ ftrue) ∷ ‵ Own ∷ [])) (Post (next-val (r .next)))
   exits r e is =
       qed W (‵ (fobs γ (T.the-row .coded .code (r .state))) ∷ ‵ (fbor κ (Body (mem T.the-row) b o γ)) ∷ ‵ (flft κ q) ∷ (‵ (flft κ′ q′) ⊛ ‵ ftrue) ∷ ‵ Own ∷ []) ∵
-      suffices ! _ (ends-at 𝓤 H A advance.ended stayed (advance.clauses 𝓤 H A at-mem run) W (((κ, (κ′, tt)), (q, (q′, tt)), tt, x, at), tt) (step-val (r .step)) (r .step) (r .state, (tt, tt)) (tt, (tt, tt))) $
+      suffices ! _ (ends-at 𝓤 H A advance.ended stayed (advance.clauses 𝓤 H A at-mem run) W (((κ, (κ′, tt)), (q, (q′, tt)), tt, x, at), tt) (next-val (r .next)) (r .next) (r .state, (tt, tt)) (tt, (tt, tt))) $
       says ! e $
       move ! (2 ∷ 3 ∷ []) $ join ! $ frame ! $ feqI ! (List Val) (vptr b o ∷ []) (vptr b o ∷ []) refl $ fjoin3 ! $
       nothing ! $ move ! (2 ∷ 0 ∷ []) $ fjoin ! $ move ! (1 ∷ 0 ∷ []) $ fjoin ! $
-      owned ! S.the-row (Is S.the-row) (EL.makes S.the-type S′.the-plain 𝓤 H A) (r .step) _ is $ move ! (1 ∷ 0 ∷ []) $ done !
+      owned ! S.the-row (Is S.the-row) (EL.makes S.the-type S′.the-plain 𝓤 H A) (r .next) _ is $ move ! (1 ∷ 0 ∷ []) $ done !
 
   module _ (C : Calls 𝓤 H) (Λ : Loops 𝓤 H) (fm : FmC 𝓤 H (W .laws) C) (known : Triple 𝓤 (C #comment-view·read-step) (ReadStep 𝓤 H A at-mem run)) where
     walk : Is (ShrSlice (named 1) κ′ u8) s (v ∷ []) → ent 𝓤 (onEntry 𝓤 H A advance.signature (κ, (κ′, tt)) (q, (q′, tt)) x at) (WpFn 𝓤 H C Λ code.function (vptr b o ∷ v ∷ []) Post)
@@ -139,13 +139,13 @@ module _ {M : Type 1} (𝓤 : URA M) (H : Heap 𝓤) (A : Atoms 𝓤) (W : Given
         land ! (from ! (stop !)) (init ! 10 refl (LL.lawful Z.the-type Z′.the-laws 𝓤 H A W .typed r _ is .0)) $
         rewrite ! 10 (λ (w : Val). ‵ (fat fullShare Z′.mir l₃ 0 w)) (ap only (LL.tells Z.the-type Z′.the-laws r (u ∷ []) is)) refl $
         assigns ! (of-opd ! (load ! (from ! (fld ! refl (stop !))) (look-in ! 10 (sub ! 1 refl (whole !))))) (from ! (hop ! (look ! 14 refl) (stop !))) (store-raw ! 3 refl (LL.lawful T.the-type T′.the-laws 𝓤 H A W .typed (r .state) _ (of-state r u is) .0)) $
-        assigns ! (of-opd ! (load ! (from ! (fld ! refl (stop !))) (look-in ! 10 (sub ! 0 refl (whole !))))) (from ! (stop !)) (init ! 16 refl (EL.lawful S.the-type S′.the-laws 𝓤 H A W tt .typed (r .step) _ (of-step r u is) .0)) $
+        assigns ! (of-opd ! (load ! (from ! (fld ! refl (stop !))) (look-in ! 10 (sub ! 0 refl (whole !))))) (from ! (stop !)) (init ! 16 refl (EL.lawful S.the-type S′.the-laws 𝓤 H A W tt .typed (r .next) _ (of-next r u is) .0)) $
         -- the borrow is closed at the new state
         owned ! T.the-row (Is T.the-row) (LL.makes T.the-type T′.the-plain 𝓤 H A) (r .state) _ (of-state r u is) $ move ! (4 ∷ 0 ∷ 6 ∷ 7 ∷ 8 ∷ []) $ closes ! tt T.the-row (r .state) (val (r .state) ∷ []) b o $
         -- [obs; the borrow; 's's token; the answer; 'b's token; what the buffer owns; what the old state owned; _4; …; _3; …; _2; …; _1; …; _0; …]
         returns ! (look ! 15 refl) $ forget ! 7 refl $ forget ! 9 refl $ forget ! 11 refl $ forget ! 13 refl $ forget ! 15 refl $
         move ! (15 ∷ 16 ∷ []) $ free1 ! $ move ! (13 ∷ 14 ∷ []) $ free1 ! $ move ! (11 ∷ 12 ∷ []) $ free1 ! $ move ! (9 ∷ 10 ∷ []) $ free1 ! $ move ! (7 ∷ 8 ∷ []) $ free1 ! $ free0 ! $
-        keep ! (0 ∷ 1 ∷ 2 ∷ 4 ∷ 5 ∷ []) $ by ! (exits r e (of-step r u is)))))))))))))
+        keep ! (0 ∷ 1 ∷ 2 ∷ 4 ∷ 5 ∷ []) $ by ! (exits r e (of-next r u is)))))))))))))
 
 module _ {M : Type 1} (𝓤 : URA M) (H : Heap 𝓤) (A : Atoms 𝓤) (W : Given 𝓤 H A) (mem : Memory → SProp 𝓤) (run : Routine → Fun 𝓤) where
   advance-walks : (C : Calls 𝓤 H) (Λ : Loops 𝓤 H) → FmC 𝓤 H (W .laws) C → Triple 𝓤 (C #comment-view·read-step) (ReadStep 𝓤 H A mem run)

@@ -1,3 +1,5 @@
+-- `read_step` meets its contract: each answer of `next`, with the state parted from it.
+-- Assumes nothing.
 use mathlib.Core.Path.{sym, _∙_, ap}
 use Rattle.comment_parser.specs.Next.{stepAnswer}
 use borrow.Author.Needs.{needs}

@@ -3,7 +3,7 @@
 use native.Mathlib.Omega.{arith}
 use borrow.Author.Needs.{needs}
 use Rattle.records.specs.Answer.{longest}
-use Rattle.comment_parser.specs.Item.{Within}
+use Rattle.comment_parser.specs.Bounds.{Within}
 use Rattle.events.proofs.lay_event.Statement.{statement}
 use Rattle.events.proofs.lay_event.Tie as tie
 
@@ -13,25 +13,28 @@ placed-in c = rw (c .placed .ensures) (c .before .before .pre)
 placed-requires : tie.Need-placed-requires
 placed-requires c κs = search needs
 
-cast-lay4 : tie.Need-cast-lay4
-cast-lay4 c = omega (arith, placed-in (c .before .before))
+cast-t7 : tie.Need-cast-t7
+cast-t7 c = omega (arith, placed-in (c .before .before))
 
-cast-lay4-2 : tie.Need-cast-lay4-2
-cast-lay4-2 c = omega (arith, placed-in (c .before .before .before))
+cast-t8 : tie.Need-cast-t8
+cast-t8 c = omega (arith, placed-in (c .before .before .before))
 
-cast-lay4-3 : tie.Need-cast-lay4-3
-cast-lay4-3 c = omega (arith, placed-in (c .before .before .before .before))
+cast-t9 : tie.Need-cast-t9
+cast-t9 c = omega (arith, placed-in (c .before .before .before .before))
 
-lay4-requires : tie.Need-lay4-requires
-lay4-requires c κs = search needs
+slice-aggregate-lay : tie.Need-slice-aggregate-lay
+slice-aggregate-lay c = search needs
+
+lay-requires : tie.Need-lay-requires
+lay-requires c κs = search needs
 
 same-length : tie.Need-same-length
 same-length c = search needs
 
 returns : tie.Need-returns
-returns c = rw (← c .before .before .before .before .before .before .before .placed .ensures) (c .before .before .lay4 .ensures)
+returns c = rw (← c .before .before .before .before .before .before .before .before .placed .ensures) (c .before .before .lay .ensures)
 
 pub lay-event-spec : {M : Type 1} → statement M
 lay-event-spec =
     tie.close
-    (tie.spec placed-requires cast-lay4 cast-lay4-2 cast-lay4-3 lay4-requires same-length returns)
+    (tie.spec placed-requires cast-t7 cast-t8 cast-t9 slice-aggregate-lay lay-requires same-length returns)

@@ -1,3 +1,5 @@
+-- `next` meets its contract: it is `next_noted` with the note that covers nothing, which holds.
+-- Assumes nothing.
 use Rattle.scans.proofs.TagLaws.{holds-nothing}
 use borrow.Author.Needs.{needs}
 use Rattle.comment_parser.proofs.ParserState.next.Statement.{statement}
@@ -10,7 +12,7 @@ next-noted-requires : tie.Need-next-noted-requires
 next-noted-requires c κs = search needs
 
 returns : tie.Need-returns
-returns c = c .next-noted .ensures (holds-nothing _ (c .before .nothing .result) (c .before .nothing .ensures .1)) .is
+returns c = c .next-noted .ensures .reads (holds-nothing _ (c .before .nothing .result) (c .before .nothing .ensures .1)) .is
 
 pub next-spec : {M : Type 1} → statement M
 next-spec = tie.close (tie.spec nothing-requires next-noted-requires returns)

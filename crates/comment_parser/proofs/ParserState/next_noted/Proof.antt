@@ -1,16 +1,28 @@
+-- `next_noted` meets its contract: the check's refusal is given whatever the note is; what it lets through is given or read on.
+-- Assumes nothing.
 use Prim.Native.Nat.{ℕ, _≤_}
-use mathlib.Core.Path.{_≡_, sym, _∙_}
-use Rattle.records.specs.Answer.{checkedAnswer, stateRefusal, longest}
-use Rattle.records.specs.declared.Checked.{Checked}
-use Rattle.records.specs.declared.Checked.the-variants.{Good}
-use Rattle.records.proofs.Answers.{state-accepted}
+use mathlib.Core.Path.{_≡_, refl, ap, sym, _∙_}
+use mathlib.Core.Option.{Option, some}
 use lib.Seq.{length-take-le}
 use borrow.Author.Needs.{needs}
-use Rattle.comment_parser.specs.Next.{nextOf, answered}
+use Rattle.basics.proofs.Laws.{differ}
+use Rattle.records.specs.Answer.{Answer, refusalAnswer, checkedAnswer, stateRefusal, longest}
+use Rattle.records.specs.declared.Checked.{Checked}
+use Rattle.records.specs.declared.Checked.the-variants.{Good, Refused}
+use Rattle.records.specs.declared.Refusal.{Refusal}
+use Rattle.records.proofs.Answers.{state-accepted}
+use Rattle.comment_parser.specs.Next.{refusedAs, nextOf, answered}
 use Rattle.comment_parser.proofs.ParserState.next_noted.Statement.{statement}
 use Rattle.comment_parser.proofs.ParserState.next_noted.Tie as tie
 
--- what a check that found nothing tells
+-- what a check tells that found nothing, and one that refuses
+module _ (r : Checked) {o : Option Answer} (h : checkedAnswer r ≡ o) where
+  lets-through : r ≡ Good → (a : Answer) → o ≡ some a → ⊥
+  lets-through e a k = differ cc
+
+  refuses : (why : Refusal) → r ≡ Refused why → (a : Answer) → o ≡ some a → refusalAnswer why ≡ a
+  refuses why e a k = cc
+
 accepted : (r : Checked) (len pos end : ℕ) → checkedAnswer r ≡ stateRefusal len pos end → r ≡ Good → (len ≤ longest) × (pos ≤ end) × (end ≤ len)
 accepted r len pos end h e = state-accepted len pos end (sym h ∙ rw e)
 
@@ -22,7 +34,13 @@ enum-known-why c = search needs
 
 returns : tie.Need-returns
 unfolding nextOf
-returns c = λ h. record { is = rw (nextOf, ← c .before .before .before .check-state .ensures, c .before .why .given .1); holds = h }
+returns c =
+    let check = c .before .before .before .check-state in
+    let why = c .before .why .given in
+    record {
+      refuses = λ a e. record { is = ap (refusedAs _) (refuses (check .result) (check .ensures) _ (why .1) a e); same = refl };
+      reads = λ h. record { is = rw (nextOf, ← check .ensures, why .1); holds = h };
+    }
 
 enum-told : tie.Need-enum-told
 enum-told c = search needs
@@ -37,18 +55,37 @@ enum-told-3 : tie.Need-enum-told-3
 enum-told-3 c = search needs
 
 slice-aggregate-read-on : tie.Need-slice-aggregate-read-on
-slice-aggregate-read-on c = sym (length-take-le _ _ (accepted (c .before .before .before .before .before .check-state .result) _ _ _ (c .before .before .before .before .before .check-state .ensures) (c .before .before .before .enum-told .given .1) .2))
+slice-aggregate-read-on c =
+    let check = c .before .before .before .before .before .check-state in
+    sym (length-take-le _ _ (accepted (check .result) _ _ _ (check .ensures) (c .before .before .before .enum-told .given .1) .2))
 
 read-on-requires : tie.Need-read-on-requires
-read-on-requires c κs = let a = accepted (c .before .before .before .before .before .check-state .result) _ _ _ (c .before .before .before .before .before .check-state .ensures) (c .before .before .before .enum-told .given .1) in rw (length-take-le _ _ (a .2)) (a .1)
+read-on-requires c κs =
+    let check = c .before .before .before .before .before .check-state in
+    let a = accepted (check .result) _ _ _ (check .ensures) (c .before .before .before .enum-told .given .1) in
+    rw (length-take-le _ _ (a .2)) (a .1)
 
 returns-2 : tie.Need-returns-2
 unfolding nextOf answered
-returns-2 c = λ h. record { is = rw (nextOf, ← c .before .before .before .before .before .check-state .ensures, c .before .before .before .enum-told .given .1, answered, c .before .enum-told2 .given .1, c .give .ensures); holds = h }
+returns-2 c =
+    let check = c .before .before .before .before .before .check-state in
+    let good = c .before .before .before .enum-told .given .1 in
+    record {
+      refuses = λ a e. absurd (lets-through (check .result) (check .ensures) good a e);
+      reads = λ h. record { is = rw (nextOf, ← check .ensures, good, answered, c .before .enum-told2 .given .1, c .give .ensures); holds = h };
+    }
 
 returns-3 : tie.Need-returns-3
 unfolding nextOf answered
-returns-3 c = λ h. let r = c .read-on .ensures h in record { is = rw (nextOf, ← c .before .before .before .before .before .before .check-state .ensures, c .before .before .before .before .enum-told .given .1, answered, c .before .before .enum-told3 .given .1, ← r .is); holds = r .holds }
+returns-3 c =
+    let check = c .before .before .before .before .before .before .check-state in
+    let good = c .before .before .before .before .enum-told .given .1 in
+    record {
+      refuses = λ a e. absurd (lets-through (check .result) (check .ensures) good a e);
+      reads = λ h.
+          let r = c .read-on .ensures h in
+          record { is = rw (nextOf, ← check .ensures, good, answered, c .before .before .enum-told3 .given .1, ← r .is); holds = r .holds };
+    }
 
 pub next-noted-spec : {M : Type 1} → statement M
 next-noted-spec =

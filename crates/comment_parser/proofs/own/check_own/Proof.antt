@@ -1,3 +1,5 @@
+-- `check_own` meets its contract: its tests are those of the definition, in its order.
+-- Assumes nothing.
 use borrow.Author.Tests.{le-ltb, lt-ltb}
 use Rattle.comment_parser.specs.Own.{ownRefusal}
 use Rattle.comment_parser.proofs.own.check_own.Statement.{statement}

@@ -1,3 +1,5 @@
+-- `unescape_own` meets its contract: what its own check lets through, the plain call takes.
+-- Assumes nothing.
 use Rattle.comment_parser.proofs.Answers.{own-good}
 use Rattle.records.proofs.Texts.{told-refused}
 use Rattle.records.specs.Answer.{checkedAnswer}

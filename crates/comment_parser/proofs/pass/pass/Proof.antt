@@ -1,19 +1,26 @@
-use Prim.Native.Nat.{_-_, _≤_}
+-- `pass` meets its contract. The invariant: the scan from the run's start is the scan from here, and the note holds.
+-- Assumes nothing.
+use Prim.Native.Nat.{ℕ, _-_, _≤_}
 use mathlib.Core.Path.{_≡_, refl, sym, _∙_}
+use mathlib.Core.List.{List}
 use lib.ListN.{length}
 use native.Mathlib.Omega.{arith}
 use borrow.Author.Needs.{needs}
 use Rattle.scans.specs.Scan.{scan}
 use Rattle.byte_rules.specs.Reading.{rust}
 use Rattle.scans.specs.Notes.{Holds}
+use Rattle.scans.specs.declared.Step.{Step}
 use Rattle.scans.proofs.Laws.{scan-end, scan-one, scan-two, scan-stop}
+use Rattle.comment_parser.specs.Rules.{passAct}
 use Rattle.comment_parser.specs.Pass.{passStep}
+use Rattle.comment_parser.specs.Notes.{Acts}
 use Rattle.comment_parser.proofs.Laws.{step-is, ended, no-more, ran-out, skip-less}
 use Rattle.comment_parser.proofs.pass.pass.Statement.{statement}
 use Rattle.comment_parser.proofs.pass.pass.Tie as tie
 
 abbrev Inv-loop : tie.InvT-loop
-Inv-loop text st from p₀ n₀ p n = (from ≤ p) × (Holds text n₀ → (scan (passStep rust text st from) (length text) from ≡ scan (passStep rust text st from) (length text) p) × Holds text n)
+Inv-loop text st from p₀ n₀ p n =
+    (from ≤ p) × (Holds text n₀ → (scan (passStep rust text st from) (length text) from ≡ scan (passStep rust text st from) (length text) p) × Holds text n)
 
 abbrev μ-loop : tie.MeasureT-loop
 μ-loop text st from p₀ n₀ p n = length text - p
@@ -28,10 +35,39 @@ moved-requires : tie.Need-moved-requires Inv-loop μ-loop
 moved-requires c κs = search needs
 
 returns : tie.Need-returns Inv-loop μ-loop
-returns c = λ h. let here = c .before .before .before .loop .inv .1 h in record { is = rw (c .moved .ensures) (sym (ran-out _ _ _ _ (here .0 ∙ c .before .before .skip .ensures .over _ ∙ scan-end _ _ _ (omega arith)))); holds = here .1 }
+returns c = λ h.
+    let here = c .before .before .before .loop .inv .1 h in
+    let ends = here .0 ∙ c .before .before .skip .ensures .over _ ∙ scan-end _ _ _ (omega arith) in
+    record { is = rw (c .moved .ensures) (sym (ran-out _ _ _ _ ends)); holds = here .1 }
 
 pass-act-requires : tie.Need-pass-act-requires Inv-loop μ-loop
 pass-act-requires c κs = omega (arith, c .before .skip .ensures .onward (c .before .before .before .before .args .from) (omega arith) (omega arith))
+
+-- at a place where a rule was asked: the scan comes there, and what the rule says
+module _ (c : tie.After-pass-act Inv-loop μ-loop) where
+  abbrev entry : tie.Start Inv-loop μ-loop
+  entry = c .before .before .before .before .before
+
+  abbrev text : List ℕ
+  text = entry .args .text .now
+
+  abbrev step : ℕ → Step
+  step = passStep rust text (entry .args .st) (entry .args .from)
+
+  abbrev here : ℕ
+  here = c .before .before .skip .result
+
+  comes : Holds text (entry .args .note) → scan step (length text) (entry .args .from) ≡ scan step (length text) here
+  comes h = c .before .before .before .loop .inv .1 h .0 ∙ c .before .before .skip .ensures .over _
+
+  says : Holds text (entry .args .note) → Acts text (passAct rust text (entry .args .st) (entry .args .from) here) (c .pass-act .result)
+  says h = c .pass-act .ensures (c .before .before .before .loop .inv .1 h .1)
+
+  onward : entry .args .from ≤ here
+  onward = c .before .before .skip .ensures .onward (entry .args .from) (omega arith) (omega arith)
+
+  ahead : c .before .before .before .loop .p ≤ here
+  ahead = skip-less _ _ _ _ (c .before .before .skip .ensures) (omega arith)
 
 enum-told : tie.Need-enum-told Inv-loop μ-loop
 enum-told c = search needs
@@ -40,10 +76,12 @@ add-p : tie.Need-add-p Inv-loop μ-loop
 add-p c = omega arith
 
 loop-less : tie.Need-loop-less Inv-loop μ-loop
-loop-less c = omega (arith, skip-less _ _ _ _ (c .before .before .before .before .before .skip .ensures) (omega arith))
+loop-less c = omega (arith, ahead (c .before .before .before))
 
 loop-again : tie.Need-loop-again Inv-loop μ-loop
-loop-again c = let inv = c .before .before .before .before .before .before .loop .inv in (omega (arith, c .before .before .before .before .before .skip .ensures .onward (c .before .before .before .before .before .before .before .before .args .from) (omega arith) (omega arith)), λ h. let here = inv .1 h in let t = c .before .before .before .pass-act .ensures (here .1) in (here .0 ∙ c .before .before .before .before .before .skip .ensures .over _ ∙ scan-one _ _ _ (omega arith) (step-is _ _ _ _ _ _ (sym (c .enum-told .given .1) ∙ t .is)), t .holds))
+loop-again c =
+    let a = c .before .before .before in
+    (omega (arith, onward a), λ h. let s = says a h in (comes a h ∙ scan-one _ _ _ (omega arith) (step-is _ _ _ _ _ _ (sym (c .enum-told .given .1) ∙ s .is)), s .holds))
 
 enum-told-2 : tie.Need-enum-told-2 Inv-loop μ-loop
 enum-told-2 c = search needs
@@ -52,16 +90,22 @@ add-p-2 : tie.Need-add-p-2 Inv-loop μ-loop
 add-p-2 c = omega arith
 
 loop-less-2 : tie.Need-loop-less-2 Inv-loop μ-loop
-loop-less-2 c = omega (arith, skip-less _ _ _ _ (c .before .before .before .before .before .skip .ensures) (omega arith))
+loop-less-2 c = omega (arith, ahead (c .before .before .before))
 
 loop-again-2 : tie.Need-loop-again-2 Inv-loop μ-loop
-loop-again-2 c = let inv = c .before .before .before .before .before .before .loop .inv in (omega (arith, c .before .before .before .before .before .skip .ensures .onward (c .before .before .before .before .before .before .before .before .args .from) (omega arith) (omega arith)), λ h. let here = inv .1 h in let t = c .before .before .before .pass-act .ensures (here .1) in (here .0 ∙ c .before .before .before .before .before .skip .ensures .over _ ∙ scan-two _ _ _ (omega arith) (step-is _ _ _ _ _ _ (sym (c .enum-told2 .given .1) ∙ t .is)), t .holds))
+loop-again-2 c =
+    let a = c .before .before .before in
+    (omega (arith, onward a), λ h. let s = says a h in (comes a h ∙ scan-two _ _ _ (omega arith) (step-is _ _ _ _ _ _ (sym (c .enum-told2 .given .1) ∙ s .is)), s .holds))
 
 enum-known-act : tie.Need-enum-known-act Inv-loop μ-loop
 enum-known-act c = search needs
 
 returns-2 : tie.Need-returns-2 Inv-loop μ-loop
-returns-2 c = λ h. let here = c .before .before .before .before .before .before .before .loop .inv .1 h in let t = c .before .before .before .before .pass-act .ensures (here .1) in let says = sym (c .before .act .given .1) ∙ t .is in record { is = sym (ended _ _ _ _ _ (omega arith) (here .0 ∙ c .before .before .before .before .before .before .skip .ensures .over _ ∙ scan-stop _ _ _ (omega arith) (step-is _ _ _ _ _ _ says)) _ _ says); holds = t .holds }
+returns-2 c = λ h.
+    let a = c .before .before .before .before in
+    let s = says a h in
+    let ends = sym (c .before .act .given .1) ∙ s .is in
+    record { is = sym (ended _ _ _ _ _ (omega arith) (comes a h ∙ scan-stop _ _ _ (omega arith) (step-is _ _ _ _ _ _ ends)) _ _ ends); holds = s .holds }
 
 enum-told-3 : tie.Need-enum-told-3 Inv-loop μ-loop
 enum-told-3 c = search needs
@@ -70,7 +114,11 @@ moved-requires-2 : tie.Need-moved-requires-2 Inv-loop μ-loop
 moved-requires-2 c κs = search needs
 
 returns-3 : tie.Need-returns-3 Inv-loop μ-loop
-returns-3 c = λ h. let here = c .before .before .before .before .before .before .before .loop .inv .1 h in let t = c .before .before .before .before .pass-act .ensures (here .1) in let says = sym (c .before .enum-told3 .given .1) ∙ t .is in record { is = rw (c .moved2 .ensures) (sym (no-more _ _ _ _ _ (omega arith) (here .0 ∙ c .before .before .before .before .before .before .skip .ensures .over _ ∙ scan-stop _ _ _ (omega arith) (step-is _ _ _ _ _ _ says)) says)); holds = t .holds }
+returns-3 c = λ h.
+    let a = c .before .before .before .before in
+    let s = says a h in
+    let ends = sym (c .before .enum-told3 .given .1) ∙ s .is in
+    record { is = rw (c .moved2 .ensures) (sym (no-more _ _ _ _ _ (omega arith) (comes a h ∙ scan-stop _ _ _ (omega arith) (step-is _ _ _ _ _ _ ends)) ends)); holds = s .holds }
 
 pub pass-spec : {M : Type 1} → statement M
 pass-spec =

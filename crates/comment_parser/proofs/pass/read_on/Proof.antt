@@ -1,3 +1,5 @@
+-- `read_on` meets its contract: the run is given if it is not empty, else what ended it.
+-- Assumes nothing.
 use native.Mathlib.Omega.{arith}
 use borrow.Author.Tests.{lt-ltb, le-ltb}
 use Rattle.comment_parser.specs.Next.{readOn}
@@ -20,11 +22,17 @@ give-requires c κs = search needs
 
 returns : tie.Need-returns
 unfolding readOn
-returns c = λ h. let r = c .before .before .before .before .before .pass .ensures h in record { is = rw (readOn, ← c .before .before .before .before .before .before .run-start .ensures, ← r .is, lt-ltb _ _ (c .before .if1 .taken), ← c .before .before .before .before .before .before .run-start .ensures, ← r .is) (cc); holds = r .holds }
+returns c = λ h.
+    let start = c .before .before .before .before .before .before .run-start .ensures in
+    let r = c .before .before .before .before .before .pass .ensures h in
+    record { is = rw (readOn, ← start, ← r .is, lt-ltb _ _ (c .before .if1 .taken), ← start, ← r .is, c .run-item .ensures); holds = r .holds }
 
 returns-2 : tie.Need-returns-2
 unfolding readOn
-returns-2 c = λ h. let r = c .before .before .before .before .before .pass .ensures h in record { is = rw (readOn, ← c .before .before .before .before .before .before .run-start .ensures, ← r .is, le-ltb _ _ (c .before .if1 .left), ← c .before .before .before .before .before .before .run-start .ensures, ← r .is) (cc); holds = r .holds }
+returns-2 c = λ h.
+    let start = c .before .before .before .before .before .before .run-start .ensures in
+    let r = c .before .before .before .before .before .pass .ensures h in
+    record { is = rw (readOn, ← start, ← r .is, le-ltb _ _ (c .before .if1 .left), ← start, ← r .is, c .give .ensures); holds = r .holds }
 
 pub read-on-spec : {M : Type 1} → statement M
 read-on-spec =

@@ -1,3 +1,5 @@
+-- `run_item` meets its contract.
+-- Assumes nothing.
 use Rattle.comment_parser.specs.Pass.{runItem}
 use Rattle.comment_parser.proofs.pass.run_item.Statement.{statement}
 use Rattle.comment_parser.proofs.pass.run_item.Tie as tie

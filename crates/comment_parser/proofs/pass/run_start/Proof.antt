@@ -1,3 +1,5 @@
+-- `run_start` meets its contract.
+-- Assumes nothing.
 use borrow.Author.Needs.{needs}
 use Rattle.comment_parser.specs.Pass.{runStart}
 use Rattle.comment_parser.proofs.pass.run_start.Statement.{statement}

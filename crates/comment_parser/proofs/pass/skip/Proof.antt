@@ -1,3 +1,5 @@
+-- `skip` meets its contract: it goes over plain bytes alone, and stops before the step that reaches the noted subscript end.
+-- Assumes nothing.
 use lib.ListN.{length}
 use native.Mathlib.Omega.{arith}
 use mathlib.Core.Path.{_∙_}

@@ -1,3 +1,5 @@
+-- `after_close` meets its contract.
+-- Assumes nothing.
 use borrow.Author.Needs.{needs}
 use Rattle.comment_parser.specs.Rules.{afterClose}
 use Rattle.comment_parser.proofs.rules.after_close.Statement.{statement}

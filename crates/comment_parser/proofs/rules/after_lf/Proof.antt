@@ -1,3 +1,5 @@
+-- `after_lf` meets its contract. The invariant: what is found from here back is what is found from the LF back.
+-- Assumes nothing.
 use Prim.Native.Nat.{_-_, _≤_}
 use mathlib.Core.Path.{_≡_, refl, sym, _∙_}
 use native.Mathlib.Omega.{arith}

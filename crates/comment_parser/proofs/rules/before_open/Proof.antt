@@ -1,3 +1,5 @@
+-- `before_open` meets its contract.
+-- Assumes nothing.
 use borrow.Author.Needs.{needs}
 use borrow.Author.Tests.{le-leb, lt-leb}
 use Rattle.comment_parser.specs.Rules.{beforeOpen}

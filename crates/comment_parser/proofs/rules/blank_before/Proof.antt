@@ -1,3 +1,5 @@
+-- `blank_before` meets its contract.
+-- Assumes nothing.
 use borrow.Author.Needs.{needs}
 use borrow.Author.Tests.{eq-eqb, ne-eqb}
 use Rattle.comment_parser.specs.Rules.{blankBefore}

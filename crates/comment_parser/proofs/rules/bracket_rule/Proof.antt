@@ -1,3 +1,5 @@
+-- `bracket_rule` meets its contract: a note that covers the place says that there is no tag, and a search in vain makes one that holds.
+-- Assumes nothing.
 use native.Mathlib.Omega.{arith}
 use mathlib.Core.Path.{sym, _∙_}
 use Rattle.look.proofs.Laws.{byte-within}

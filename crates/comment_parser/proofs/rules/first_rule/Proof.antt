@@ -1,3 +1,5 @@
+-- `first_rule` meets its contract.
+-- Assumes nothing.
 use Rattle.comment_parser.specs.Rules.{firstRule}
 use borrow.Author.Needs.{needs}
 use Rattle.comment_parser.proofs.rules.first_rule.Statement.{statement}

@@ -1,3 +1,5 @@
+-- `html_rule` meets its contract.
+-- Assumes nothing.
 use Rattle.comment_parser.specs.Rules.{htmlRule}
 use borrow.Author.Needs.{needs}
 use Rattle.comment_parser.proofs.rules.html_rule.Statement.{statement}

@@ -1,3 +1,5 @@
+-- `label_item` meets its contract.
+-- Assumes nothing.
 use borrow.Author.Needs.{needs}
 use Rattle.comment_parser.specs.Rules.{labelItem}
 use Rattle.comment_parser.proofs.rules.label_item.Statement.{statement}

@@ -1,3 +1,5 @@
+-- `math_rule` meets its contract.
+-- Assumes nothing.
 use borrow.Author.Tests.{lt-ltb, le-ltb}
 use Rattle.comment_parser.specs.Rules.{mathRule}
 use borrow.Author.Needs.{needs}

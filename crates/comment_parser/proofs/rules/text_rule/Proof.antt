@@ -1,3 +1,5 @@
+-- `text_rule` meets its contract.
+-- Assumes nothing.
 use native.Mathlib.Omega.{arith}
 use mathlib.Core.Path.{sym, _∙_}
 use Rattle.comment_parser.specs.Rules.{textRule}

@@ -1,3 +1,5 @@
+-- `tick_rule` meets its contract.
+-- Assumes nothing.
 use borrow.Author.Needs.{needs}
 use Rattle.comment_parser.specs.Rules.{tickRule}
 use Rattle.comment_parser.proofs.rules.tick_rule.Statement.{statement}

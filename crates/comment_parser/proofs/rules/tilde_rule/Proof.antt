@@ -1,3 +1,5 @@
+-- `tilde_rule` meets its contract: the label ends where the definition says, if the note holds.
+-- Assumes nothing.
 use Rattle.scans.proofs.Laws.{scan-le}
 use Rattle.comment_parser.specs.Rules.{tildeRule}
 use borrow.Author.Needs.{needs}

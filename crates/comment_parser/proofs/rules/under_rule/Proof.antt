@@ -1,3 +1,5 @@
+-- `under_rule` meets its contract.
+-- Assumes nothing.
 use borrow.Author.Needs.{needs}
 use Rattle.comment_parser.specs.Rules.{underRule}
 use borrow.Author.Tests.{eq-eqb, ne-eqb}

@@ -51,14 +51,14 @@ use Rattle.comment_parser.specs.Next.{nextOf}
 use Rattle.comment_parser.specs.declared.ParserState.{ParserState}
 use Rattle.comment_view.specs.View.{gives}
 use Rattle.comment_view.specs.declared.View.{View}
-use Rattle.comment_view.specs.declared.Step.{Step}
+use Rattle.comment_view.specs.declared.NextItem.{NextItem}
 use Rattle.comment_parser.proofs.ParserState as T
 use Rattle.comment_parser.proofs.ParserState.Laws as T′
-use Rattle.comment_view.proofs.Step as S
-use Rattle.comment_view.proofs.Step.Laws as S′
+use Rattle.comment_view.proofs.NextItem as S
+use Rattle.comment_view.proofs.NextItem.Laws as S′
 use Rattle.comment_view.proofs.View as Vw
 use Rattle.comment_view.proofs.View.Laws as Vw′
-use Rattle.comment_view.proofs.Machine.{val, step-val, again-step}
+use Rattle.comment_view.proofs.Machine.{val, next-val, again-next}
 use Rattle.comment_view.proofs.Lent.{state-in, state-out}
 use Rattle.comment_view.proofs.advance as advance
 use Rattle.comment_view.proofs.advance.Symbol as advance-def
@@ -119,7 +119,7 @@ module _ {M : Type 1} (𝓤 : URA M) (H : Heap 𝓤) (A : Atoms 𝓤) (W : Given
   at-state st = record { buf = h .buf; state = st }
 
   -- what `advance` says: of its result, and of the state at exit
-  abbrev Said : Step → ParserState → Type 0
+  abbrev Said : NextItem → ParserState → Type 0
   Said r st = gives r st ≡ nextOf rust (now (h .buf)) (h .state)
 
   abbrev Post : Val → SProp 𝓤
@@ -156,11 +156,11 @@ module _ {M : Type 1} (𝓤 : URA M) (H : Heap 𝓤) (A : Atoms 𝓤) (W : Given
         -- [what buf owns; what the state owns; what the view owns; the tokens; the reference]
         move ! (1 ∷ []) $ drop ! $ nothing ! $ move ! (1 ∷ 0 ∷ []) $ fjoin ! $ move ! (3 ∷ 0 ∷ []) $ fjoin ! $ move ! (2 ∷ 0 ∷ []) $ use2 W (raw (Advance 𝓤 H A at-mem run .pre to)) asked $ frame ! $ done !)
 
-  exits : (r : Step) (st : ParserState) → Said r st → Is S.the-row r (step-val r ∷ [])
-      → ent 𝓤 (⋆ 𝓤 H A (‵ (fobs γ (R .coded .code (at-state st))) ∷ ‵ (fbor κ (Body (mem R) b o γ)) ∷ ‵ (flft κ q) ∷ (‵ (flft κ′ q′) ⊛ ‵ ftrue) ∷ [])) (Post (step-val r))
+  exits : (r : NextItem) (st : ParserState) → Said r st → Is S.the-row r (next-val r ∷ [])
+      → ent 𝓤 (⋆ 𝓤 H A (‵ (fobs γ (R .coded .code (at-state st))) ∷ ‵ (fbor κ (Body (mem R) b o γ)) ∷ ‵ (flft κ q) ∷ (‵ (flft κ′ q′) ⊛ ‵ ftrue) ∷ [])) (Post (next-val r))
   exits r st e is =
       qed W (‵ (fobs γ (R .coded .code (at-state st))) ∷ ‵ (fbor κ (Body (mem R) b o γ)) ∷ ‵ (flft κ q) ∷ (‵ (flft κ′ q′) ⊛ ‵ ftrue) ∷ []) ∵
-      suffices ! _ (ends-at 𝓤 H A next-item.ended stayed (next-item.clauses 𝓤 H A at-mem run) W (((κ, (κ′, tt)), (q, (q′, tt)), bounds, x, at), tt) (step-val r) r (at-state st, tt) (tt, tt)) $
+      suffices ! _ (ends-at 𝓤 H A next-item.ended stayed (next-item.clauses 𝓤 H A at-mem run) W (((κ, (κ′, tt)), (q, (q′, tt)), bounds, x, at), tt) (next-val r) r (at-state st, tt) (tt, tt)) $
       says ! (e, refl) $ move ! (2 ∷ 3 ∷ []) $ join ! $ frame ! $ feqI ! (List Val) (vptr b o ∷ []) (vptr b o ∷ []) refl $ fjoin3 ! $
       nothing ! $ move ! (1 ∷ 0 ∷ []) $ fjoin ! $ owned ! S.the-row (Is S.the-row) (EL.makes S.the-type S′.the-plain 𝓤 H A) r _ is $ move ! (1 ∷ 0 ∷ []) $ done !
 
@@ -185,7 +185,7 @@ module _ {M : Type 1} (𝓤 : URA M) (H : Heap 𝓤) (A : Atoms 𝓤) (W : Given
         -- [the reference; the lender's part; ν's token; the view's cell; what the view owns; the open borrow; obs; auth; 'a's token; true; _6; …; _5; …; _4; …; _3; …; …; _1; …; room for _0; …]
         move ! (2 ∷ 8 ∷ []) $ join ! $ move ! (0 ∷ 1 ∷ 4 ∷ []) $ use3 W (raw (Advance 𝓤 H A at-mem run .pre (to l₂ ν δ)) ⊛ ‵ (R .own h (mach h ∷ []))) (goes l₂ ν δ) $ split ! $
         calls-at ! fm (Advance 𝓤 H A at-mem run) known (to l₂ ν δ) (and-then ! (load ! (from ! (stop !)) (look ! 10 refl)) (and-then ! (load ! (from ! (stop !)) (look ! 8 refl)) (no-more !))) (λ u.
-        use1 W (later (some (λ (r : Step). (Toks l₂ ν δ ⊛ ‵ (S.the-row .own r (u ∷ []))) ⊛ raw (ensured 𝓤 H A advance.ended (advance.clauses 𝓤 H A at-mem run) (ν ∷ [], (κ′, tt)) (lent l₂ ν δ) tt r)))) (id⊢ 𝓤 _) $ await ! tt $ pick ! (λ r.
+        use1 W (later (some (λ (r : NextItem). (Toks l₂ ν δ ⊛ ‵ (S.the-row .own r (u ∷ []))) ⊛ raw (ensured 𝓤 H A advance.ended (advance.clauses 𝓤 H A at-mem run) (ν ∷ [], (κ′, tt)) (lent l₂ ν δ) tt r)))) (id⊢ 𝓤 _) $ await ! tt $ pick ! (λ r.
         -- what `advance` ensures, at some last state
         split ! $ move ! (1 ∷ []) $ use1 W (some (λ (ws : ParserState × (Unit {0} × Unit {0})). ‵ (lasts advance.ended (ν ∷ [], (κ′, tt)) (lent l₂ ν δ) ws) ⊛ raw (fact 𝓤 (Said r (ws .0))))) (id⊢ 𝓤 _) $ pick ! (λ ws.
         split ! $ move ! (1 ∷ []) $ heard ! (Said r (ws .0)) (λ e. fsplit ! $ move ! (2 ∷ []) $ split ! $ move ! (1 ∷ []) $
@@ -198,7 +198,7 @@ module _ {M : Type 1} (𝓤 : URA M) (H : Heap 𝓤) (A : Atoms 𝓤) (W : Given
         -- [the state in _2; 'a's token; …; what the view owns; the view's cell; the open borrow; obs; auth; true; _6; …; _5; …; _4; …; _3; …; …; _1; …; room for _0; …]
         assigns ! (of-opd ! (load ! (from ! (stop !)) (look ! 0 refl))) (from ! (stop !)) (store ! 13 refl (LL.lawful T.the-type T′.the-laws 𝓤 H A W .typed (ws .0) _ is′ .0)) $
         assigns ! (of-opd ! (load ! (from ! (stop !)) (look ! 13 refl))) (from ! (hop ! (look ! 18 refl) (fld ! refl (stop !)))) (store-in ! 4 (sub ! 1 refl (whole !)) (LL.lawful T.the-type T′.the-laws 𝓤 H A W .typed (ws .0) _ is′ .0)) $
-        assigns ! (of-opd ! (load ! (from ! (stop !)) (look ! 15 refl))) (from ! (stop !)) (init ! 20 refl (EL.lawful S.the-type S′.the-laws 𝓤 H A W tt .typed r _ (again-step r u is) .0)) $
+        assigns ! (of-opd ! (load ! (from ! (stop !)) (look ! 15 refl))) (from ! (stop !)) (init ! 20 refl (EL.lawful S.the-type S′.the-laws 𝓤 H A W tt .typed r _ (again-next r u is) .0)) $
         -- the new state's part is put in the old one's place, and the borrow is closed at the view with it
         move ! (3 ∷ []) $ owned ! T.the-row (Is T.the-row) (LL.makes T.the-type T′.the-plain 𝓤 H A) (ws .0) _ is′ $ move ! (1 ∷ 0 ∷ []) $
         use2 W (‵ (R .own (at-state (ws .0)) (mach (at-state (ws .0)) ∷ []))) (own-put 𝓤 H A W D L 1 vd (ws .0) (mach h)) $
@@ -207,7 +207,7 @@ module _ {M : Type 1} (𝓤 : URA M) (H : Heap 𝓤) (A : Atoms 𝓤) (W : Given
         -- [obs; the borrow; 's's token; the state in _2; 'a's token; …; true; _6; …; _5; …; _4; …; _3; …; …; _1; …; _0; …]
         returns ! (look ! 18 refl) $ forget ! 3 refl $ forget ! 7 refl $ forget ! 9 refl $ forget ! 11 refl $ forget ! 13 refl $ forget ! 16 refl $ forget ! 18 refl $
         move ! (18 ∷ 19 ∷ []) $ free1 ! $ move ! (16 ∷ 17 ∷ []) $ free1 ! $ move ! (3 ∷ 15 ∷ []) $ free1 ! $ move ! (12 ∷ 13 ∷ []) $ free1 ! $ move ! (10 ∷ 11 ∷ []) $ free1 ! $ move ! (8 ∷ 9 ∷ []) $ free1 ! $ move ! (6 ∷ 7 ∷ []) $ free1 ! $ free0 ! $
-        keep ! (0 ∷ 1 ∷ 2 ∷ 3 ∷ []) $ by ! (exits r (ws .0) e (again-step r u is)))))))))))))))))))
+        keep ! (0 ∷ 1 ∷ 2 ∷ 3 ∷ []) $ by ! (exits r (ws .0) e (again-next r u is)))))))))))))))))))
 
 module _ {M : Type 1} (𝓤 : URA M) (H : Heap 𝓤) (A : Atoms 𝓤) (W : Given 𝓤 H A) (mem : Memory → SProp 𝓤) (run : Routine → Fun 𝓤) where
   next-item-walks : (C : Calls 𝓤 H) (Λ : Loops 𝓤 H) → FmC 𝓤 H (W .laws) C → Triple 𝓤 (C #comment-view·advance) (Advance 𝓤 H A mem run)

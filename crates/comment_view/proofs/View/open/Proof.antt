@@ -55,6 +55,7 @@ use Rattle.comment_view.proofs.View as Vw
 use Rattle.comment_view.proofs.View.Laws as Vw′
 use Rattle.comment_view.proofs.Opened as O
 use Rattle.comment_view.proofs.Opened.Laws as O′
+use Rattle.comment_view.proofs.Answers.{opened-as}
 use Rattle.comment_view.proofs.Machine.{val, check-val, again-state, again-check}
 use Rattle.records.proofs.check_span as check
 use Rattle.records.proofs.check_span.Symbol as check-def
@@ -148,7 +149,7 @@ module _ {M : Type 1} (𝓤 : URA M) (H : Heap 𝓤) (A : Atoms 𝓤) (W : Given
   exits : (r : Checked) (st : ParserState) → Checks r → st ≡ fresh a z → Is K.the-row r (check-val r ∷ []) → Is T.the-row st (val st ∷ []) → ent 𝓤 (onEntry 𝓤 H A opens.signature (κ, tt) (q, tt) (s, (a, (z, tt))) at) (Post (mach r st))
   exits r st e e′ is is′ =
       qed W ((‵ (flft κ q) ⊛ ‵ ftrue) ∷ ‵ (owns (ShrSlice (named 0) κ u8 ∷ usize ∷ usize ∷ []) (s, (a, (z, tt))) at) ∷ []) ∵
-      suffices ! _ (ends-at 𝓤 H A opens.ended stayed (opens.clauses 𝓤 H A mem run) W bound (mach r st) (beside r st) (tt, (tt, (tt, tt))) (tt, (tt, (tt, tt)))) $ says ! (e, ap made e′) $
+      suffices ! _ (ends-at 𝓤 H A opens.ended stayed (opens.clauses 𝓤 H A mem run) W bound (mach r st) (beside r st) (tt, (tt, (tt, tt))) (tt, (tt, (tt, tt)))) $ says ! (opened-as r _ e, ap made e′) $
       frame ! $ fsplit ! $ use1 W (‵ Own ⊛ ‵ Own) (shr-slice-copy 𝓤 H A W (named 0) κ u8 .twice s (v ∷ [])) $ split ! $ move ! (0 ∷ 2 ∷ []) $ fjoin ! $ frame ! $
       -- [what buf owns]: with what the state owns, it is what the view owns; and with what the check owns, what the struct owns
       nothing ! $ owned ! T.the-row (Is T.the-row) (LL.makes T.the-type T′.the-plain 𝓤 H A) st _ is′ $ fjoin ! $ move ! (1 ∷ 0 ∷ []) $ fjoin ! $

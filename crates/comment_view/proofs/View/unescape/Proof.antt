@@ -43,15 +43,13 @@ use denote.Triple.Walked.{says, Stays, stay-none, gave-slice, walkOf, AllGo, goe
 use denote.Exit.{yes}
 use denote.Triple.Clauses.{ensured, lasts}
 use Rattle.records.specs.Answer.{filledAnswer}
-use Rattle.records.specs.Records.{textAnswer, textLeft}
 use Rattle.records.specs.declared.Filled.{Filled}
 use Rattle.records.proofs.Filled as Fi
 use Rattle.records.proofs.Filled.Laws as Fi′
-use Rattle.comment_parser.specs.Own.{ownRefusal}
 use Rattle.comment_parser.specs.declared.ParserState.{ParserState}
 use Rattle.comment_parser.proofs.ParserState as T
 use Rattle.comment_parser.proofs.ParserState.Laws as T′
-use Rattle.comment_view.specs.Unescaping.{textOf}
+use Rattle.comment_view.specs.Unescaping.{formAnswer, formLeft}
 use Rattle.comment_view.specs.declared.View.{View}
 use Rattle.comment_view.specs.declared.unescaping.Form.{Form}
 use Rattle.comment_view.proofs.View as Vw
@@ -143,8 +141,7 @@ module _ {M : Type 1} (𝓤 : URA M) (H : Heap 𝓤) (A : Atoms 𝓤) (W : Given
 
   -- what `unescape_as` says, of its result and of the room's last list
   abbrev Said : Filled → List ℕ → Type 0
-  Said r zs = (filledAnswer r ≡ textAnswer (ownRefusal (length (now (d .buf))) (d .state) a z) (textOf f (d .state) (now (d .buf)) a z) (length (now out)))
-      × (zs ≡ textLeft (ownRefusal (length (now (d .buf))) (d .state) a z) (textOf f (d .state) (now (d .buf)) a z) (now out))
+  Said r zs = (filledAnswer r ≡ formAnswer f (d .state) (now (d .buf)) a z (length (now out))) × (zs ≡ formLeft f (d .state) (now (d .buf)) a z (now out))
 
   exits : (r : Filled) (u : Val) (zs : List ℕ) → Said r zs → length zs ≡ length (now out) → Is F.the-row f (form-val ∷ [])
       → ent 𝓤 (⋆ 𝓤 H A (‵ (Fi.the-row .own r (u ∷ [])) ∷ Toks ∷ ‵ (finally u8 (out .name) zs) ∷ ‵ Own ∷ [])) (Post u)

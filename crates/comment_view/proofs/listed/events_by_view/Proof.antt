@@ -1,3 +1,5 @@
+-- `events_by_view` meets its contract: the records are laid and counted, and whether they all fit decides the answer.
+-- Assumes nothing.
 use Prim.Native.Nat.{ℕ, _*_, _≤_, _<_}
 use mathlib.Core.Path.{_≡_, ap, sym, _∙_}
 use mathlib.Core.List.{List}

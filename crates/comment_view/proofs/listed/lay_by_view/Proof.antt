@@ -54,18 +54,17 @@ use denote.Triple.Table.{entered, cited}
 use denote.Triple.Walked.{says, Stays, stay-none, stay-none-slice, stay-slice, walkOf, AllGo, goes-none, goes-none-slice, goes-slice, Walks, ends-at, walked, walk-meets}
 use denote.Exit.{yes}
 use Rattle.byte_rules.specs.Reading.{rust}
-use Rattle.records.specs.Answer.{checkedAnswer, spanRefusal}
 use Rattle.records.specs.Records.{laid}
 use Rattle.comment_parser.specs.Next.{nextOf}
-use Rattle.comment_view.specs.View.{gives, viewOf}
+use Rattle.comment_view.specs.View.{gives, openedAnswer, openAnswer, viewOf}
 use Rattle.events.specs.Events.{eventWidth, eventRecords}
 use Rattle.comment_view.specs.Listed.{Lays, ReadyFor}
 use Rattle.comment_view.specs.declared.View.{View}
 use Rattle.comment_view.specs.declared.Opened.{Opened}
-use Rattle.comment_view.specs.declared.Step.{Step}
+use Rattle.comment_view.specs.declared.NextItem.{NextItem}
 use Rattle.comment_view.specs.declared.listed.Listing.{Listing}
-use Rattle.comment_view.proofs.Step as S
-use Rattle.comment_view.proofs.Step.Laws as S′
+use Rattle.comment_view.proofs.NextItem as S
+use Rattle.comment_view.proofs.NextItem.Laws as S′
 use Rattle.comment_view.proofs.View as Vw
 use Rattle.comment_view.proofs.View.Laws as Vw′
 use Rattle.comment_view.proofs.Opened as O
@@ -74,7 +73,7 @@ use Rattle.comment_view.proofs.listed.Listing as Li
 use Rattle.comment_view.proofs.listed.Listing.Laws as Li′
 use Rattle.comment_view.proofs.Again.{LentAgain, lends-again, comes-back}
 use Rattle.comment_view.proofs.Lent.{ViewAt, view-val, view-in, view-out, Whole, meets, unmeets}
-use Rattle.comment_view.proofs.Machine.{step-val, listing-val, again-step, again-listing}
+use Rattle.comment_view.proofs.Machine.{next-val, listing-val, again-next, again-listing}
 use Rattle.comment_view.proofs.Turns.{size, Stands, starts, ready, ends}
 use Rattle.comment_view.proofs.Turns as laws
 use Rattle.comment_view.proofs.View.open as opens
@@ -153,7 +152,7 @@ module _ {M : Type 1} (𝓤 : URA M) (H : Heap 𝓤) (A : Atoms 𝓤) (mem : Mem
   Lay = tripleOf 𝓤 H A lay.signature (lay.spec 𝓤 H A mem run)
 
 -- what `next_item` says: of its result, and of the view at exit
-abbrev Said : View → Step → View → Type 0
+abbrev Said : View → NextItem → View → Type 0
 Said d r d′ = (gives r (d′ .state) ≡ nextOf rust (now (d .buf)) (d .state)) × (d′ .buf ≡ d .buf)
 
 record Turn (s : RefT (List ℕ)) (ys : List ℕ) (a z : ℕ) : Type 0 where
@@ -182,7 +181,7 @@ module _ (s : RefT (List ℕ)) (ys : List ℕ) (a z : ℕ) where
     stands = subst (λ (w : View). Stands (now s) ys a z (w .state) begun ys) (sym e) (starts (now s) ys a z);
   }
 
-  module _ (t : Turn s ys a z) (going : Holds (t .done .going)) (r : Step) (d′ : View) (e : Said (t .view) r d′) where
+  module _ (t : Turn s ys a z) (going : Holds (t .done .going)) (r : NextItem) (d′ : View) (e : Said (t .view) r d′) where
     -- what `next_item` says, over the buffer s
     over-s : gives r (d′ .state) ≡ nextOf rust (now s) (t .view .state)
     over-s = e .0 ∙ ap (λ (b : RefT (List ℕ)). nextOf rust (now b) (t .view .state)) (t .held)
@@ -278,7 +277,7 @@ module _ {M : Type 1} (𝓤 : URA M) (H : Heap 𝓤) (A : Atoms 𝓤) (W : Given
       move ! (6 ∷ 5 ∷ []) $ join ! $ use2 W (raw (Open 𝓤 H A at-mem run .pre to-open)) asked-open $ frame ! $ frame ! $ move ! (1 ∷ []) $ drop ! $ move ! (1 ∷ 0 ∷ []) $ done !
 
   abbrev Opens : Opened → Type 0
-  Opens d = (checkedAnswer (d .answer) ≡ spanRefusal (length (now s)) a z) × (d .view ≡ viewOf s a z)
+  Opens d = (openedAnswer (d .answer) ≡ openAnswer (now s) a z) × (d .view ≡ viewOf s a z)
 
   open-said : (d : Opened) → ent 𝓤 (ensured 𝓤 H A opens.ended (opens.clauses 𝓤 H A at-mem run) (κ, tt) (s, (a, (z, tt))) tt d) (fact 𝓤 (Opens d))
   open-said d = exE 𝓤 _ (λ ws. snd∗ 𝓤 (sem 𝓤 H A (lasts opens.ended (κ, tt) (s, (a, (z, tt))) ws)) (fact 𝓤 (Opens d)))
@@ -294,13 +293,13 @@ module _ {M : Type 1} (𝓤 : URA M) (H : Heap 𝓤) (A : Atoms 𝓤) (W : Given
   goes-next d l ν δ = qed W (Toks ν ∷ ‵ (MutRef (named 0) (ν ∷ κ) R .own (lent d l δ) (vptr l 0 ∷ [])) ∷ []) ∵ nothing ! $ move ! (2 ∷ 0 ∷ []) $ fjoin ! $ move ! (1 ∷ 0 ∷ []) $ join ! $ frame ! $ done !
 
   -- ---- a call of `lay_step`, on the room at zs, lent on for ν under the name δ
-  abbrev laid-args : Listing → Step → GName → List ℕ → Listing × (Step × (RefT (List ℕ) × Unit {0}))
+  abbrev laid-args : Listing → NextItem → GName → List ℕ → Listing × (NextItem × (RefT (List ℕ) × Unit {0}))
   laid-args p r δ zs = (p, (r, (x δ zs, tt)))
 
-  abbrev to-lay : Listing → Step → ℕ → GName → List ℕ → Lay 𝓤 H A at-mem run .Ghost
-  to-lay p r ν δ zs = (((ν ∷ [], tt), (fullShare, tt), tt, laid-args p r δ zs, (listing-val p ∷ [], (step-val r ∷ [], (w ∷ [], tt)))), tt)
+  abbrev to-lay : Listing → NextItem → ℕ → GName → List ℕ → Lay 𝓤 H A at-mem run .Ghost
+  to-lay p r ν δ zs = (((ν ∷ [], tt), (fullShare, tt), tt, laid-args p r δ zs, (listing-val p ∷ [], (next-val r ∷ [], (w ∷ [], tt)))), tt)
 
-  goes-lay : (p : Listing) (r : Step) (ν : ℕ) (δ : GName) (zs : List ℕ) → Is Li.the-row p (listing-val p ∷ []) → Is S.the-row r (step-val r ∷ []) → ReadyFor p r zs
+  goes-lay : (p : Listing) (r : NextItem) (ν : ℕ) (δ : GName) (zs : List ℕ) → Is Li.the-row p (listing-val p ∷ []) → Is S.the-row r (next-val r ∷ []) → ReadyFor p r zs
       → ent 𝓤 (sep 𝓤 (A .lft (ν ∷ []) fullShare) (sem 𝓤 H A (Lent-own ν δ zs (length ys)))) (Lay 𝓤 H A at-mem run .pre (to-lay p r ν δ zs))
   goes-lay p r ν δ zs is is′ can =
       qed W (‵ (flft (ν ∷ []) fullShare) ∷ ‵ (Lent-own ν δ zs (length ys)) ∷ []) ∵ says ! can $ nothing ! $ move ! (1 ∷ 0 ∷ []) $ join ! $ frame ! $
@@ -361,7 +360,7 @@ module _ {M : Type 1} (𝓤 : URA M) (H : Heap 𝓤) (A : Atoms 𝓤) (W : Given
         move ! (2 ∷ 30 ∷ []) $ use2 W (Toks ν ⊛ raw (Whole 𝓤 H A W ν κ q)) (meets 𝓤 H A W ν κ q) $ split ! $ move ! (0 ∷ 2 ∷ []) $ use2 W (raw (Next 𝓤 H A at-mem run .pre (to-next (d t) l₆ ν δ))) (goes-next (d t) l₆ ν δ) $
         -- [what `next_item` asks; the way back; the lender's part; _13; …; _12; …; _11; …; _10; …; _9; …; _8; …; _7; …; …; _5; …; _4; …; _3; …; _2; …; _1; …; _0; …; the room's token; what buf owns; what the room owns]
         calls-at ! (fmOf 𝓤 H (W .laws) 𝓣) (Next 𝓤 H A at-mem run) known-next (to-next (d t) l₆ ν δ) (and-then ! (load ! (from ! (stop !)) (look ! 7 refl)) (no-more !)) (λ u.
-        use1 W (later (some (λ (r : Step). (Toks ν ⊛ ‵ (S.the-row .own r (u ∷ []))) ⊛ raw (ensured 𝓤 H A next.ended (next.clauses 𝓤 H A at-mem run) (ν ∷ κ, (κ, tt)) (lent (d t) l₆ δ, tt) tt r)))) (id⊢ 𝓤 _) $ await ! tt $ pick ! (λ r.
+        use1 W (later (some (λ (r : NextItem). (Toks ν ⊛ ‵ (S.the-row .own r (u ∷ []))) ⊛ raw (ensured 𝓤 H A next.ended (next.clauses 𝓤 H A at-mem run) (ν ∷ κ, (κ, tt)) (lent (d t) l₆ δ, tt) tt r)))) (id⊢ 𝓤 _) $ await ! tt $ pick ! (λ r.
         split ! $ move ! (1 ∷ []) $ use1 W (some (λ (ws : View × Unit {0}). ‵ (lasts next.ended (ν ∷ κ, (κ, tt)) (lent (d t) l₆ δ, tt) ws) ⊛ raw (fact 𝓤 (Said (d t) r (ws .0))))) (id⊢ 𝓤 _) $ pick ! (λ ws.
         split ! $ move ! (1 ∷ []) $ heard ! (Said (d t) r (ws .0)) (λ e. fsplit ! $ move ! (2 ∷ []) $ split ! $ move ! (1 ∷ []) $
         peeks ! S.the-row (Is S.the-row) (shows 𝓤 H A S.the-row) r (u ∷ []) (λ is.
@@ -378,7 +377,7 @@ module _ {M : Type 1} (𝓤 : URA M) (H : Heap 𝓤) (A : Atoms 𝓤) (W : Given
         rewrite ! 32 (λ (m : ℕ). ‵ (Out-own (t .out) m)) (sym (long t)) refl $ lft-new ! tt (λ ν′. move ! (33 ∷ 31 ∷ []) $
         use2 W (later (some (λ (δ′ : GName). ‵ (Lent-own ν′ δ′ (t .out) (length (t .out))) ⊛ ‵ (LentAgain u32 κ′ (ν′ ∷ []) q′ γ b o δ′ (t .out))))) (lends-again u32 κ′ (ν′ ∷ []) q′ γ b o 𝓤 H A W (named 1) (named 0) (t .out)) $ await ! tt $ pick ! (λ δ′. split ! $
         rewrite ! 0 (λ (m : ℕ). ‵ (Lent-own ν′ δ′ (t .out) m)) (long t) refl $
-        move ! (2 ∷ 0 ∷ []) $ use2 W (raw (Lay 𝓤 H A at-mem run .pre (to-lay (t .done) r ν′ δ′ (t .out)))) (goes-lay (t .done) r ν′ δ′ (t .out) (t .typed) (again-step r u is) (can-lay s ys a z t going r (ws .0) e)) $
+        move ! (2 ∷ 0 ∷ []) $ use2 W (raw (Lay 𝓤 H A at-mem run .pre (to-lay (t .done) r ν′ δ′ (t .out)))) (goes-lay (t .done) r ν′ δ′ (t .out) (t .typed) (again-next r u is) (can-lay s ys a z t going r (ws .0) e)) $
         -- [what `lay_step` asks; the lender's part; the view in _6; what it owns; the buffer's token; _13; …; _12; …; _11; …; _10; …; _9; …; _8; …; _7; …; …; _5; …; _4; …; _3; …; _2; …; _1; …; _0; …; what buf owns]
         calls-at-last ! (fmOf 𝓤 H (W .laws) 𝓣) (Lay 𝓤 H A at-mem run) known-lay (to-lay (t .done) r ν′ δ′ (t .out)) (and-then ! (load ! (from ! (stop !)) (look ! 17 refl)) (and-then ! (load ! (from ! (stop !)) (look ! 15 refl)) (and-then ! (load ! (from ! (stop !)) (look ! 5 refl)) (no-more !)))) (λ u′.
         use1 W (later (some (λ (p : Listing). ((‵ (flft (ν′ ∷ []) fullShare) ⊛ ‵ ftrue) ⊛ ‵ (Li.the-row .own p (u′ ∷ []))) ⊛ raw (ensured 𝓤 H A lay.ended (lay.clauses 𝓤 H A at-mem run) (ν′ ∷ [], tt) (laid-args (t .done) r δ′ (t .out)) tt p)))) (id⊢ 𝓤 _) $ await ! tt $ pick ! (λ p.

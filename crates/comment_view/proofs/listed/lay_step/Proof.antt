@@ -1,36 +1,38 @@
+-- `lay_step` meets its contract: what is no event lays nothing, and an event's record, whose numbers fit a word, is laid behind the words written.
+-- Assumes nothing.
+use Prim.Native.Nat.{ℕ, _+_, _≤_}
 use mathlib.Core.Path.{refl, ap, sym, subst}
 use mathlib.Core.Bool.{false}
 use mathlib.Core.Logic.{inl, inr}
 use mathlib.Core.List.{List, [], _∷_}
-use lib.ListN.{take-append-drop}
 use native.Mathlib.Omega.{arith}
+use lib.ListN.{length, take-append-drop}
 use types.Run.{OneOf}
 use denote.Enum.Declared.{tagOf}
 use denote.Ref.{now}
-use Prim.Native.Nat.{ℕ}
+use borrow.Author.Needs.{needs}
 use Rattle.records.specs.Answer.{longest}
 use Rattle.records.specs.Records.{laid, used}
 use Rattle.records.specs.declared.Wrote.{Wrote}
-use Rattle.comment_parser.specs.Item.{Within}
+use Rattle.comment_parser.specs.Bounds.{Within}
 use Rattle.comment_view.specs.Listed.{Ready, ReadyFor, Lays}
-use Rattle.comment_view.specs.declared.Step.{Step}
-use Rattle.comment_view.specs.declared.Step.the-variants.{Event, End, Refused}
+use Rattle.comment_view.specs.declared.NextItem.{NextItem}
+use Rattle.comment_view.specs.declared.NextItem.the-variants.{Event, End, Refused}
 use Rattle.comment_view.specs.declared.listed.Listing.{Listing}
-use Rattle.comment_view.proofs.Step as S
+use Rattle.comment_view.proofs.NextItem as S
 use Rattle.comment_view.proofs.Turns.{stays-inside, lays-one}
-use borrow.Author.Needs.{needs}
 use Rattle.comment_view.proofs.listed.lay_step.Statement.{statement}
 use Rattle.comment_view.proofs.listed.lay_step.Tie as tie
 
-enum-known-step : tie.Need-enum-known-step
-enum-known-step c = search needs
+enum-known-next : tie.Need-enum-known-next
+enum-known-next c = search needs
 
 -- a step that gives no event
 never : OneOf (1 ∷ 2 ∷ []) 0 → ⊥
 never (inl e) = omega arith
 never (inr e) = omega arith
 
-stops : (done : Listing) (s : Step) (out : List ℕ) → OneOf (1 ∷ 2 ∷ []) (tagOf S.the-type s) → Lays done s out (record { going = false; words = done .words; count = done .count }) out
+stops : (done : Listing) (s : NextItem) (out : List ℕ) → OneOf (1 ∷ 2 ∷ []) (tagOf S.the-type s) → Lays done s out (record { going = false; words = done .words; count = done .count }) out
 unfolding laid used
 stops done (Event i) out k = absurd (never k)
 stops done End out k = record { goes = refl; words = omega arith; counts = omega arith; leaves = sym (take-append-drop (done .words) out) }
@@ -43,48 +45,60 @@ placed-requires : tie.Need-placed-requires
 placed-requires c κs = search needs
 
 -- what is required, of the step's event
-ready : (c : tie.After-placed) → Ready (c .before .before .before .before .before .args .done) (c .before .before .step .given .0 .0) (now (c .before .before .before .before .before .args .out))
-ready c = subst (λ (s : Step). ReadyFor (c .before .before .before .before .before .args .done) s (now (c .before .before .before .before .before .args .out))) (c .before .before .step .given .1) (c .before .before .before .before .before .pre)
+module _ (c : tie.After-placed) where
+  abbrev entry : tie.Start
+  entry = c .before .before .before .before .before
 
-fits : (c : tie.After-placed) → Within 0 longest (c .placed .result)
-fits c = subst (Within 0 longest) (sym (c .placed .ensures)) (ready c .fits)
+  ready : Ready (entry .args .done) (c .before .before .next .given .0 .0) (now (entry .args .out))
+  ready = subst (λ (s : NextItem). ReadyFor (entry .args .done) s (now (entry .args .out))) (c .before .before .next .given .1) (entry .pre)
 
-mul-lay4 : tie.Need-mul-lay4
-mul-lay4 c = search (needs, ready c .inside)
+  fits : Within 0 longest (c .placed .result)
+  fits = subst (Within 0 longest) (sym (c .placed .ensures)) (ready .fits)
 
-sub-lay4 : tie.Need-sub-lay4
-sub-lay4 c = ready c .inside
+mul-lay : tie.Need-mul-lay
+mul-lay c = search (needs, ready c .inside)
 
-part-lay4-start : tie.Need-part-lay4-start
-part-lay4-start c = ready c .inside
+sub-lay : tie.Need-sub-lay
+sub-lay c = ready c .inside
 
-part-lay4-end : tie.Need-part-lay4-end
-part-lay4-end c = search needs
+part-lay-start : tie.Need-part-lay-start
+part-lay-start c = ready c .inside
 
-cast-lay4 : tie.Need-cast-lay4
-cast-lay4 c = let w = fits (c .before .before) in omega (arith, w .placed, w .ordered, w .below)
+part-lay-end : tie.Need-part-lay-end
+part-lay-end c = search needs
 
-cast-lay4-2 : tie.Need-cast-lay4-2
-cast-lay4-2 c = let w = fits (c .before .before .before) in omega (arith, w .ordered, w .below)
+cast-t14 : tie.Need-cast-t14
+cast-t14 c = omega (arith, fits (c .before .before))
 
-cast-lay4-3 : tie.Need-cast-lay4-3
-cast-lay4-3 c = let w = fits (c .before .before .before .before) in omega (arith, w .below)
+cast-t15 : tie.Need-cast-t15
+cast-t15 c = omega (arith, fits (c .before .before .before))
 
-lay4-requires : tie.Need-lay4-requires
-lay4-requires c κs = search needs
+cast-t16 : tie.Need-cast-t16
+cast-t16 c = omega (arith, fits (c .before .before .before .before))
+
+slice-aggregate-lay : tie.Need-slice-aggregate-lay
+slice-aggregate-lay c = search needs
+
+lay-requires : tie.Need-lay-requires
+lay-requires c κs = search needs
+
+-- behind the record: the place behind `placed`, and that the words written stay words of the room
+module _ (c : tie.After-lay) where
+  abbrev at-placed : tie.After-placed
+  at-placed = c .before .before .before .before .before .before
+
+  inside : entry at-placed .args .done .words + c .lay .result .words ≤ length (now (entry at-placed .args .out))
+  inside = stays-inside (entry at-placed .args .done) _ (now (entry at-placed .args .out)) _ (c .lay .ensures .0) (ready at-placed .inside)
 
 add-t8 : tie.Need-add-t8
 add-t8 c =
     let laid = c .before .before .before in
-    let p = laid .before .before .before .before .before in
-    let s = p .before .before .before .before .before in
-    record { fits = omega (arith, stays-inside (s .args .done) _ (now (s .args .out)) _ (laid .lay4 .ensures .0) (ready p .inside), s .good .1 .1 .0 .0) }
+    record { fits = omega (arith, inside laid, entry (at-placed laid) .good .1 .1 .0 .0) }
 
 add-t10 : tie.Need-add-t10
 add-t10 c =
     let laid = c .before .before .before .before .before in
-    let p = laid .before .before .before .before .before in
-    record { fits = omega (arith, ap (λ (w : Wrote). w .count) (laid .lay4 .ensures .0), ready p .few) }
+    record { fits = omega (arith, ap (λ (w : Wrote). w .count) (laid .lay .ensures .0), inside laid, entry (at-placed laid) .good .1 .1 .0 .0, ready (at-placed laid) .few) }
 
 same-length : tie.Need-same-length
 same-length c = search needs
@@ -92,24 +106,25 @@ same-length c = search needs
 returns-2 : tie.Need-returns-2
 returns-2 c =
     let laid = c .before .before .before .before .before in
-    let p = laid .before .before .before .before .before in
-    lays-one _ _ _ _ (laid .lay4 .ensures .0) _ (p .before .before .step .given .0 .0) _ (p .before .before .step .given .1) (p .placed .ensures) (laid .lay4 .ensures .1)
+    let p = at-placed laid in
+    lays-one _ _ _ _ (laid .lay .ensures .0) _ (p .before .before .next .given .0 .0) _ (p .before .before .next .given .1) (p .placed .ensures) (laid .lay .ensures .1)
 
 pub lay-step-spec : {M : Type 1} → statement M
 lay-step-spec =
     tie.close
     (tie.spec
-    enum-known-step
+    enum-known-next
     returns
     placed-requires
-    mul-lay4
-    sub-lay4
-    part-lay4-start
-    part-lay4-end
-    cast-lay4
-    cast-lay4-2
-    cast-lay4-3
-    lay4-requires
+    mul-lay
+    sub-lay
+    part-lay-start
+    part-lay-end
+    cast-t14
+    cast-t15
+    cast-t16
+    slice-aggregate-lay
+    lay-requires
     add-t8
     add-t10
     same-length

@@ -1,3 +1,5 @@
+-- `unescape_as` meets its contract: each form is the parser's own call for it.
+-- Assumes nothing.
 use borrow.Author.Needs.{needs}
 use Rattle.comment_view.proofs.unescaping.unescape_as.Statement.{statement}
 use Rattle.comment_view.proofs.unescaping.unescape_as.Tie as tie
