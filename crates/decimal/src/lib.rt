@@ -43,3 +43,11 @@ pub fn put_decimal(out: &mut [u8], n: u64) -> Filled
     }
     Filled::Done(put_digits(out, n))
 }
+
+// Writes the digits of n at the front of `out`, which has room for those of any number, and returns how many they are.
+pub fn put_number(out: &mut [u8; 20], n: u64) -> usize
+    ensures count { λ r. ⌜ r ≡ length (decimal n) ⌝ }
+    ensures left { λ r. ⌜ now (out .exit) ≡ over (decimal n) (now (out .entry)) ⌝ }
+{
+    put_digits(out, n)
+}

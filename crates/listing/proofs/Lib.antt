@@ -1,2 +1,2 @@
-pub mod Laws
 pub mod Names
+pub mod Lines

@@ -9,7 +9,7 @@ use Rattle.byte_rules.specs.Text.{bytes}
 use Rattle.comment_parser.specs.Item.{placedOf}
 use Rattle.comment_parser.specs.declared.CommentItem.{CommentItem}
 use Rattle.comment_parser.specs.declared.CommentItem.the-variants.{Text, LineBreak, StartMathMode, EndMathMode, MathToken, Label, Url, StartHtml, EndHtml, StartSubscript, EndSubscript, StartItalic, EndItalic, BibTag}
-use Rattle.listing.specs.Line.{nameOf}
+use Rattle.listing.specs.Listing.{nameOf}
 
 abbrev pub names : List ℕ
 names = bytes "TextLineBreakStartMathModeEndMathModeMathTokenLabelUrlStartHtmlEndHtmlStartSubscriptEndSubscriptStartItalicEndItalicBibTag"

@@ -1,4 +1,3 @@
 pub mod Hex
-pub mod Fields
 pub mod Rooms
 pub mod Standing

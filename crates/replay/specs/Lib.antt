@@ -1,4 +1,4 @@
-pub mod Bounds
 pub mod Headers
-pub mod Lines
+pub mod Hex
+pub mod Pattern
 pub mod Tables

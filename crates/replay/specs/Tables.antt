@@ -1,8 +1,8 @@
 -- The tables that are lent stand in the program's areas, of 2,621,440 bytes and 262,144 ends.
 use Prim.Native.Nat.{ℕ, _≤_}
 use mathlib.Core.Path.{_≡_}
-use Rattle.replay.specs.declared.tables.Place.{Place}
-use Rattle.replay.specs.declared.tables.Place.the-variants.{At}
+use Rattle.replay.specs.declared.tables.Spot.{Spot}
+use Rattle.replay.specs.declared.tables.Spot.the-variants.{Of}
 use Rattle.replay.specs.declared.tables.Table.{Table}
 use Rattle.replay.specs.declared.tables.Tables.{Tables}
 
@@ -22,6 +22,6 @@ pub record Lent (t : Tables) : Type 0 where
   pub labels : Standing (t .labels)
   pub bibliography : Standing (t .bibliography)
 
--- a place that was given is one
-abbrev pub Placed : Place → Type 0
-Placed r = (t : Table) → r ≡ At t → Standing t
+-- a table that was given a spot stands there
+abbrev pub Stands : Spot → Type 0
+Stands r = (t : Table) → r ≡ Of t → Standing t

@@ -2,10 +2,9 @@
 use crate::header::Header;
 use crate::names::bit;
 use crate::output::Told;
-use crate::output::emit_line;
+use crate::output::answered;
 use crate::output::emit_record;
 use crate::output::told_line;
-use crate::texts::number_of;
 use parentheticals::Discouragements;
 use parentheticals::Flagged;
 use parentheticals::Found;
@@ -14,8 +13,8 @@ use parentheticals::ParentheticalState;
 use parentheticals::Span;
 use parentheticals::Started;
 use parentheticals::Step;
-ghost use Prim.Native.Nat.{_≤_};
-ghost use lib.ListN.{length};
+use programs::Output;
+use programs::refusal_number;
 
 // How many parentheticals some steps gave, and whether the last step answered the end.
 struct Counted {
@@ -55,16 +54,56 @@ fn count_steps(from: ParentheticalState, buf: &[u8], most: u32) -> Counted {
     }
 }
 
-// The line of a record.
-fn emit_credit(out: &mut [u8], at: usize, kind: u64, whole: Span, author: Span, date: Span) -> usize
-    requires { ⌜ at ≤ length (now out) ⌝ }
-    ensures { λ r. ⌜ r ≤ length (now (out .exit)) ⌝ }
-{
+// A parenthetical's kind, author and date, as its record has them.
+struct Parts {
+    kind: u64,
+    author: Span,
+    date: Span,
+}
+
+// A notice has neither author nor date.
+fn notice(kind: u64) -> Parts {
+    Parts {
+        kind,
+        author: Span { start: 0, end: 0 },
+        date: Span { start: 0, end: 0 },
+    }
+}
+
+fn parts_of(item: Parenthetical) -> Parts {
+    match item {
+        Parenthetical::ContributedBy { author, date } => Parts {
+            kind: 1,
+            author,
+            date,
+        },
+        Parenthetical::RevisedBy { author, date } => Parts {
+            kind: 2,
+            author,
+            date,
+        },
+        Parenthetical::ProofShortenedBy { author, date } => Parts {
+            kind: 3,
+            author,
+            date,
+        },
+        Parenthetical::ProofModificationDiscouraged => notice(4),
+        Parenthetical::NewUsageDiscouraged => notice(5),
+    }
+}
+
+// The line of a parenthetical.
+fn emit_found(output: Output, out: &mut [u8], found: Found) -> Output {
+    let whole = found.whole;
+    let item = found.item;
+    let parts = parts_of(item);
+    let author = parts.author;
+    let date = parts.date;
     emit_record(
+        output,
         out,
-        at,
+        parts.kind,
         &[
-            kind,
             whole.start as u64,
             whole.end as u64,
             author.start as u64,
@@ -75,39 +114,15 @@ fn emit_credit(out: &mut [u8], at: usize, kind: u64, whole: Span, author: Span, 
     )
 }
 
-// The line of a parenthetical.
-fn emit_found(out: &mut [u8], at: usize, found: Found) -> usize
-    requires { ⌜ at ≤ length (now out) ⌝ }
-    ensures { λ r. ⌜ r ≤ length (now (out .exit)) ⌝ }
-{
-    let whole = found.whole;
-    let item = found.item;
-    let none = Span { start: 0, end: 0 };
-    match item {
-        Parenthetical::ContributedBy { author, date } => {
-            emit_credit(out, at, 1, whole, author, date)
-        }
-        Parenthetical::RevisedBy { author, date } => emit_credit(out, at, 2, whole, author, date),
-        Parenthetical::ProofShortenedBy { author, date } => {
-            emit_credit(out, at, 3, whole, author, date)
-        }
-        Parenthetical::ProofModificationDiscouraged => emit_credit(out, at, 4, whole, none, none),
-        Parenthetical::NewUsageDiscouraged => emit_credit(out, at, 5, whole, none, none),
-    }
-}
-
 // The lines of the first `count` parentheticals.
 fn emit_credits(
+    output: Output,
     out: &mut [u8],
-    at: usize,
     from: ParentheticalState,
     buf: &[u8],
     count: u32,
-) -> usize
-    requires { ⌜ at ≤ length (now out) ⌝ }
-    ensures { λ r. ⌜ r ≤ length (now (out .exit)) ⌝ }
-{
-    let mut to = at;
+) -> Output {
+    let mut to = output;
     let mut state = from;
     let mut i: u32 = 0;
     while i < count {
@@ -116,7 +131,7 @@ fn emit_credits(
         let Step::Next(found) = step else {
             return to;
         };
-        to = emit_found(out, to, found);
+        to = emit_found(to, out, found);
         state = stepped.state;
         i += 1;
     }
@@ -124,34 +139,25 @@ fn emit_credits(
 }
 
 // The steps are made twice, as for S.
-pub fn stepping(h: Header, payload: &[u8], out: &mut [u8], at: usize) -> Told
-    requires { ⌜ at ≤ length (now out) ⌝ }
-    ensures { λ r. ⌜ r .at ≤ length (now (out .exit)) ⌝ }
-{
+pub fn stepping(h: Header, payload: &[u8], output: Output, out: &mut [u8]) -> Told {
     match ParentheticalState::new(payload, h.a as usize, h.b as usize) {
         Started::Ready(state) => {
             let counted = count_steps(state, payload, h.c);
             let ended = bit(counted.is_end);
-            let head = emit_line(out, at, b"Q", &[0, counted.count as u64, ended]);
-            Told {
-                is_case: true,
-                at: emit_credits(out, head, state, payload, counted.count),
-            }
+            let head = output.line(out, b"Q", &[0, counted.count as u64, ended]);
+            answered(emit_credits(head, out, state, payload, counted.count))
         }
-        Started::Refused(why) => told_line(out, at, b"Q", &[number_of(why), 0, 0]),
+        Started::Refused(why) => told_line(output, out, b"Q", &[refusal_number(why), 0, 0]),
     }
 }
 
-pub fn flagging(payload: &[u8], out: &mut [u8], at: usize) -> Told
-    requires { ⌜ at ≤ length (now out) ⌝ }
-    ensures { λ r. ⌜ r .at ≤ length (now (out .exit)) ⌝ }
-{
+pub fn flagging(payload: &[u8], output: Output, out: &mut [u8]) -> Told {
     match Discouragements::new(payload) {
         Flagged::Flags(flags) => {
             let modification = bit(flags.modification_discouraged);
             let usage = bit(flags.usage_discouraged);
-            told_line(out, at, b"F", &[0, modification, usage])
+            told_line(output, out, b"F", &[0, modification, usage])
         }
-        Flagged::Refused(why) => told_line(out, at, b"F", &[number_of(why)]),
+        Flagged::Refused(why) => told_line(output, out, b"F", &[refusal_number(why)]),
     }
 }

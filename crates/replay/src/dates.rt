@@ -2,10 +2,10 @@
 use crate::header::Header;
 use crate::names::bit;
 use crate::output::Told;
+use crate::output::answered;
 use crate::output::no_case;
 use crate::output::told_line;
 use crate::texts::emit_text;
-use crate::texts::fill;
 use date::Date;
 use date::DateRead;
 use date::Order;
@@ -13,31 +13,20 @@ use date::compare;
 use date::is_calendar;
 use date::read_date;
 use date::write_date;
+use programs::Output;
 ghost use mathlib.Core.Path.{_≡_};
-ghost use Prim.Native.Nat.{_≤_, _/_, _%_};
-ghost use lib.ListN.{length};
+ghost use Prim.Native.Nat.{_/_, _%_};
 ghost use Rattle.date.specs.Ordering.{orderNumber};
 
-pub fn reading(payload: &[u8], out: &mut [u8], at: usize) -> Told
-    requires { ⌜ at ≤ length (now out) ⌝ }
-    ensures { λ r. ⌜ r .at ≤ length (now (out .exit)) ⌝ }
-{
+pub fn reading(payload: &[u8], output: Output, out: &mut [u8]) -> Told {
     let DateRead::Read(date) = read_date(payload) else {
-        return told_line(out, at, b"D", &[5]);
+        return told_line(output, out, b"D", &[5]);
     };
     let is_one = bit(is_calendar(date));
-    told_line(
-        out,
-        at,
-        b"D",
-        &[
-            0,
-            date.year as u64,
-            date.month as u64,
-            date.day as u64,
-            is_one,
-        ],
-    )
+    let year = date.year as u64;
+    let month = date.month as u64;
+    let day = date.day as u64;
+    told_line(output, out, b"D", &[0, year, month, day, is_one])
 }
 
 // The date of a header's numbers, if each of them fits.
@@ -63,14 +52,11 @@ fn date_of(h: Header) -> Numbers {
     })
 }
 
-pub fn calendar(h: Header, out: &mut [u8], at: usize) -> Told
-    requires { ⌜ at ≤ length (now out) ⌝ }
-    ensures { λ r. ⌜ r .at ≤ length (now (out .exit)) ⌝ }
-{
+pub fn calendar(h: Header, output: Output, out: &mut [u8]) -> Told {
     let Numbers::Are(date) = date_of(h) else {
-        return no_case(at);
+        return no_case(output);
     };
-    told_line(out, at, b"K", &[0, bit(is_calendar(date))])
+    told_line(output, out, b"K", &[0, bit(is_calendar(date))])
 }
 
 // A date packed as year times 65,536, plus month times 256, plus day.
@@ -94,37 +80,16 @@ fn order_number(order: Order) -> u64
     }
 }
 
-pub fn order(h: Header, out: &mut [u8], at: usize) -> Told
-    requires { ⌜ at ≤ length (now out) ⌝ }
-    ensures { λ r. ⌜ r .at ≤ length (now (out .exit)) ⌝ }
-{
+pub fn order(h: Header, output: Output, out: &mut [u8]) -> Told {
     let n = order_number(compare(unpacked(h.a), unpacked(h.b)));
-    told_line(out, at, b"O", &[0, n])
+    told_line(output, out, b"O", &[0, n])
 }
 
-// The date written into the whole of `room`.
-fn written(date: Date, room: &mut [u8], out: &mut [u8], at: usize) -> Told
-    requires { ⌜ at ≤ length (now out) ⌝ }
-    ensures { λ r. ⌜ r .at ≤ length (now (out .exit)) ⌝ }
-{
-    fill(room);
-    let filled = write_date(date, room);
-    Told {
-        is_case: true,
-        at: emit_text(out, at, b"W", filled, room),
-    }
-}
-
-pub fn writing(h: Header, room: &mut [u8], out: &mut [u8], at: usize) -> Told
-    requires { ⌜ at ≤ length (now out) ⌝ }
-    ensures { λ r. ⌜ r .at ≤ length (now (out .exit)) ⌝ }
-{
-    let lent = h.room as usize;
-    if room.len() < lent {
-        return no_case(at);
-    }
+// The date written into the room.
+pub fn writing(h: Header, room: &mut [u8], output: Output, out: &mut [u8]) -> Told {
     let Numbers::Are(date) = date_of(h) else {
-        return no_case(at);
+        return no_case(output);
     };
-    written(date, &mut room[..lent], out, at)
+    let filled = write_date(date, room);
+    answered(emit_text(output, out, b"W", filled, room))
 }

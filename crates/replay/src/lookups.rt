@@ -2,28 +2,25 @@
 use crate::header::Header;
 use crate::lists::emit_refusal;
 use crate::output::Told;
+use crate::output::answered;
 use crate::output::no_case;
 use crate::output::told_line;
 use crate::tables::Table;
 use crate::tables::Tables;
+use crate::tables::ends_of;
+use crate::tables::names_of;
 use name_table::Known;
 use name_table::lookup;
-ghost use Prim.Native.Nat.{_≤_};
+use programs::Output;
 ghost use lib.ListN.{length};
 ghost use Rattle.replay.specs.Tables.{Areas, Standing, Lent};
 
-// What a lookup answered.
-fn told_known(out: &mut [u8], at: usize, known: Known) -> Told
-    requires { ⌜ at ≤ length (now out) ⌝ }
-    ensures { λ r. ⌜ r .at ≤ length (now (out .exit)) ⌝ }
-{
+// Whether the name was found.
+fn found(known: Known) -> u64 {
     match known {
-        Known::Yes => told_line(out, at, b"N", &[0, 1]),
-        Known::No => told_line(out, at, b"N", &[0, 0]),
-        Known::Refused(why) => Told {
-            is_case: true,
-            at: emit_refusal(out, at, b'N', why),
-        },
+        Known::Yes => 1,
+        Known::No => 0,
+        Known::Refused(_) => 0,
     }
 }
 
@@ -33,18 +30,16 @@ fn look_up(
     table: Table,
     names: &[u8],
     ends: &[u32],
+    output: Output,
     out: &mut [u8],
-    at: usize,
 ) -> Told
-    requires { ⌜ Standing table × (Areas (length (now names)) (length (now ends)) × (at ≤ length (now out))) ⌝ }
-    ensures { λ r. ⌜ r .at ≤ length (now (out .exit)) ⌝ }
+    requires { ⌜ Standing table × Areas (length (now names)) (length (now ends)) ⌝ }
 {
-    let from = table.from;
-    let to = table.to;
-    let first = table.first;
-    let last = table.last;
-    let known = lookup(&names[from..to], &ends[first..last], payload);
-    told_known(out, at, known)
+    let known = lookup(names_of(names, table), ends_of(ends, table), payload);
+    if let Known::Refused(why) = known {
+        return answered(emit_refusal(output, out, b'N', why));
+    }
+    told_line(output, out, b"N", &[0, found(known)])
 }
 
 // In a bibliography that is not lent nothing is found: its table is empty.
@@ -54,17 +49,16 @@ pub fn looking_up(
     tables: Tables,
     names: &[u8],
     ends: &[u32],
+    output: Output,
     out: &mut [u8],
-    at: usize,
 ) -> Told
-    requires { ⌜ Lent tables × (Areas (length (now names)) (length (now ends)) × (at ≤ length (now out))) ⌝ }
-    ensures { λ r. ⌜ r .at ≤ length (now (out .exit)) ⌝ }
+    requires { ⌜ Lent tables × Areas (length (now names)) (length (now ends)) ⌝ }
 {
     let flag = h.flag;
     match flag {
-        1 => look_up(payload, tables.symbols, names, ends, out, at),
-        2 => look_up(payload, tables.labels, names, ends, out, at),
-        3 => look_up(payload, tables.bibliography, names, ends, out, at),
-        _ => no_case(at),
+        1 => look_up(payload, tables.symbols, names, ends, output, out),
+        2 => look_up(payload, tables.labels, names, ends, output, out),
+        3 => look_up(payload, tables.bibliography, names, ends, output, out),
+        _ => no_case(output),
     }
 }

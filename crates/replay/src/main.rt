@@ -1,13 +1,11 @@
 // Replays cases through the library. Reads cases (oracle/REPLAY.md) from standard input until it ends, and writes their answers to standard output.
 // It knows every op of that page. At what is no case and at an input that ends inside a case it writes `bad case` and ends.
-// An op is a function in the file of its group, and an arm in `answer`; T, which has no answer and may be larger, is taken before.
-mod bytes;
+// An op is a function in the file of its group, and an arm in `answer`, `with_room` or `with_words`; T, which has no answer and may be
+// larger, is taken before.
 mod checks;
 mod credits;
 mod dates;
 mod header;
-mod input;
-mod lines;
 mod lists;
 mod lookups;
 mod names;
@@ -18,41 +16,36 @@ mod tables;
 mod texts;
 mod unescaping;
 
+use checks::list_diagnostics;
 use header::Header;
 use header::read_header;
-use input::Source;
-use input::take;
+use lists::fill_words;
+use lists::list_events;
+use lists::list_parentheticals;
 use output::Told;
-use output::emit;
-use output::flush;
+use output::front;
 use output::no_case;
+use programs::Output;
+use programs::Source;
 use tables::Tables;
 use tables::lend;
 use tables::no_tables;
+use texts::fill;
 ghost use mathlib.Core.Path.{_≡_};
-ghost use Prim.Native.Nat.{_≤_};
 ghost use lib.ListN.{length};
-ghost use Rattle.replay.specs.Bounds.{Within};
 ghost use Rattle.replay.specs.Tables.{Areas, Lent};
 
-// What goes from case to case: the input not yet taken, the tables that are lent, how much of the output buffer is used, whether to go on,
-// and whether the input ended between two cases. Not to go on without that end means that there was no case.
+// What goes from case to case: the input not yet taken, the tables that are lent, the output so far, whether to go on, and whether
+// the input ended between two cases. Not to go on without that end means that there was no case.
 struct State {
     source: Source,
     tables: Tables,
-    at: usize,
+    output: Output,
     more: bool,
     is_end: bool,
 }
 
-// The largest payload but a table's, and the largest room of a text op. Each area comes from a function of its own.
-fn area() -> [u8; 65536]
-    ensures { λ r. ⌜ 65536 ≡ length r ⌝ }
-{
-    [0u8; 65536]
-}
-
-// The largest room of a list op.
+// The largest room of a list op. Each area comes from a function of its own.
 fn word_area() -> [u32; 524288]
     ensures { λ r. ⌜ 524288 ≡ length r ⌝ }
 {
@@ -73,6 +66,93 @@ fn end_area() -> [u32; 262144]
     [0u32; 262144]
 }
 
+// The text ops. The room holds its pattern before the call.
+fn with_room(h: Header, payload: &[u8], room: &mut [u8], output: Output, out: &mut [u8]) -> Told {
+    fill(room);
+    let op = h.op;
+    match op {
+        b'U' => unescaping::unescaping(h, payload, room, output, out),
+        b'V' => steps::own_unescaping(h, payload, room, output, out),
+        _ => dates::writing(h, room, output, out),
+    }
+}
+
+// The same in as many bytes of room as the header lends.
+fn text_op(h: Header, payload: &[u8], room: &mut [u8], output: Output, out: &mut [u8]) -> Told {
+    let lent = h.room as usize;
+    if room.len() < lent {
+        return no_case(output);
+    }
+    with_room(h, payload, &mut room[..lent], output, out)
+}
+
+// The list ops. The words hold their pattern before the call.
+fn with_words(
+    h: Header,
+    payload: &[u8],
+    tables: Tables,
+    names: &[u8],
+    ends: &[u32],
+    words: &mut [u32],
+    output: Output,
+    out: &mut [u8],
+) -> Told
+    requires { ⌜ Lent tables × Areas (length (now names)) (length (now ends)) ⌝ }
+{
+    fill_words(words);
+    let op = h.op;
+    match op {
+        b'E' => list_events(h, payload, words, output, out),
+        b'P' => list_parentheticals(h, payload, words, output, out),
+        _ => list_diagnostics(h, payload, tables, names, ends, words, output, out),
+    }
+}
+
+// The same in as many words as the header lends.
+fn list_op(
+    h: Header,
+    payload: &[u8],
+    tables: Tables,
+    names: &[u8],
+    ends: &[u32],
+    words: &mut [u32],
+    output: Output,
+    out: &mut [u8],
+) -> Told
+    requires { ⌜ Lent tables × Areas (length (now names)) (length (now ends)) ⌝ }
+{
+    let lent = h.room as usize;
+    if words.len() < lent {
+        return no_case(output);
+    }
+    with_words(
+        h,
+        payload,
+        tables,
+        names,
+        ends,
+        &mut words[..lent],
+        output,
+        out,
+    )
+}
+
+// The ops that need no area but the payload.
+fn plain_op(h: Header, payload: &[u8], output: Output, out: &mut [u8]) -> Told {
+    let op = h.op;
+    match op {
+        b'L' => names::label(payload, output, out),
+        b'R' => names::reserved(payload, output, out),
+        b'D' => dates::reading(payload, output, out),
+        b'K' => dates::calendar(h, output, out),
+        b'O' => dates::order(h, output, out),
+        b'S' => steps::stepping(h, payload, output, out),
+        b'Q' => credits::stepping(h, payload, output, out),
+        b'F' => credits::flagging(payload, output, out),
+        _ => no_case(output),
+    }
+}
+
 // The answer of a case, by its op.
 fn answer(
     h: Header,
@@ -82,122 +162,135 @@ fn answer(
     ends: &[u32],
     room: &mut [u8],
     words: &mut [u32],
+    output: Output,
     out: &mut [u8],
-    at: usize,
 ) -> Told
-    requires { ⌜ Lent tables × (Areas (length (now names)) (length (now ends)) × (at ≤ length (now out))) ⌝ }
-    ensures { λ r. ⌜ r .at ≤ length (now (out .exit)) ⌝ }
+    requires { ⌜ Lent tables × Areas (length (now names)) (length (now ends)) ⌝ }
 {
     let op = h.op;
     match op {
-        b'L' => names::label(payload, out, at),
-        b'R' => names::reserved(payload, out, at),
-        b'U' => unescaping::unescaping(h, payload, room, out, at),
-        b'D' => dates::reading(payload, out, at),
-        b'K' => dates::calendar(h, out, at),
-        b'O' => dates::order(h, out, at),
-        b'W' => dates::writing(h, room, out, at),
-        b'S' => steps::stepping(h, payload, out, at),
-        b'V' => steps::own_unescaping(h, payload, room, out, at),
-        b'E' | b'P' => lists::listing(h, payload, words, out, at),
-        b'Q' => credits::stepping(h, payload, out, at),
-        b'F' => credits::flagging(payload, out, at),
-        b'N' => lookups::looking_up(h, payload, tables, names, ends, out, at),
-        b'C' => checks::checking(h, payload, tables, names, ends, words, out, at),
-        _ => no_case(at),
+        b'N' => lookups::looking_up(h, payload, tables, names, ends, output, out),
+        b'U' | b'V' | b'W' => text_op(h, payload, room, output, out),
+        b'E' | b'P' | b'C' => list_op(h, payload, tables, names, ends, words, output, out),
+        _ => plain_op(h, payload, output, out),
     }
 }
 
-// The payload of a header, and the case's answer.
-fn with_payload(
+// What stands next in the input: a case, with the input behind it, or none, or the end.
+enum Read {
+    Case(Source, Header),
+    NoCase,
+    End,
+}
+
+// Reads the payload of a header.
+fn read_payload(h: Header, source: Source, input: &mut [u8], payload: &mut [u8]) -> Read {
+    let n = h.n as usize;
+    let end = front(n, payload);
+    let body = source.take(input, &mut payload[..end]);
+    if body.count < n {
+        return Read::NoCase;
+    }
+    let rest = body.source;
+    Read::Case(rest, h)
+}
+
+// Reads a case. A table's payload is not read here: it goes to the table's own place.
+fn read_case(source: Source, input: &mut [u8], payload: &mut [u8]) -> Read {
+    let mut header = [0u8; 24];
+    let head = source.take(input, &mut header);
+    if head.count == 0 {
+        return Read::End;
+    }
+    if head.count < 24 {
+        return Read::NoCase;
+    }
+    let rest = head.source;
+    let h = read_header(&header);
+    if h.op == b'T' {
+        return Read::Case(rest, h);
+    }
+    read_payload(h, rest, input, payload)
+}
+
+// The state of a run that ends.
+fn ended(state: State, is_end: bool) -> State
+    requires { ⌜ Lent (state .tables) ⌝ }
+    ensures { λ r. ⌜ Lent (r .tables) ⌝ }
+{
+    let source = state.source;
+    let tables = state.tables;
+    let output = state.output;
+    State {
+        source,
+        tables,
+        output,
+        more: false,
+        is_end,
+    }
+}
+
+// A case that lends a table.
+fn with_table(
+    state: State,
     h: Header,
     source: Source,
-    tables: Tables,
     input: &mut [u8],
-    payload: &mut [u8],
+    names: &mut [u8],
+    ends: &mut [u32],
+) -> State
+    requires { ⌜ Lent (state .tables) × Areas (length (now names)) (length (now ends)) ⌝ }
+    ensures { λ r. ⌜ Lent (r .tables) ⌝ }
+{
+    let lending = lend(h, source, state.tables, input, names, ends);
+    let rest = lending.source;
+    let tables = lending.tables;
+    let output = state.output;
+    State {
+        source: rest,
+        tables,
+        output,
+        more: lending.is_case,
+        is_end: false,
+    }
+}
+
+// A case that is answered.
+fn with_answer(
+    state: State,
+    h: Header,
+    source: Source,
+    payload: &[u8],
     names: &[u8],
     ends: &[u32],
     room: &mut [u8],
     words: &mut [u32],
     out: &mut [u8],
-    at: usize,
 ) -> State
-    requires { ⌜ Within source (length (now input)) × (Lent tables × (Areas (length (now names)) (length (now ends)) × (at ≤ length (now out)))) ⌝ }
-    ensures { λ r. ⌜ Within (r .source) (length (now (input .exit))) × (Lent (r .tables) × (r .at ≤ length (now (out .exit)))) ⌝ }
+    requires { ⌜ Lent (state .tables) × Areas (length (now names)) (length (now ends)) ⌝ }
+    ensures { λ r. ⌜ Lent (r .tables) ⌝ }
 {
-    let n = h.n as usize;
-    if payload.len() < n {
-        return State {
-            source,
-            tables,
-            at,
-            more: false,
-            is_end: false,
-        };
-    }
-    let body = take(source, input, &mut payload[..n]);
-    let rest = body.source;
-    if body.count < n {
-        return State {
-            source: rest,
-            tables,
-            at,
-            more: false,
-            is_end: false,
-        };
-    }
-    let told = answer(h, &payload[..n], tables, names, ends, room, words, out, at);
-    State {
-        source: rest,
-        tables,
-        at: told.at,
-        more: told.is_case,
-        is_end: false,
-    }
-}
-
-// A case from its header on.
-fn with_header(
-    h: Header,
-    source: Source,
-    tables: Tables,
-    input: &mut [u8],
-    payload: &mut [u8],
-    names: &mut [u8],
-    ends: &mut [u32],
-    room: &mut [u8],
-    words: &mut [u32],
-    out: &mut [u8],
-    at: usize,
-) -> State
-    requires { ⌜ Within source (length (now input)) × (Lent tables × (Areas (length (now names)) (length (now ends)) × (at ≤ length (now out)))) ⌝ }
-    ensures { λ r. ⌜ Within (r .source) (length (now (input .exit))) × (Lent (r .tables) × (r .at ≤ length (now (out .exit)))) ⌝ }
-{
-    if h.op == b'T' {
-        let lending = lend(h, source, tables, input, names, ends);
-        let rest = lending.source;
-        let lent = lending.tables;
-        return State {
-            source: rest,
-            tables: lent,
-            at,
-            more: lending.is_case,
-            is_end: false,
-        };
-    }
-    with_payload(
+    let tables = state.tables;
+    let end = front(h.n as usize, payload);
+    let told = answer(
         h,
-        source,
+        &payload[..end],
         tables,
-        input,
-        payload,
         names,
         ends,
         room,
         words,
+        state.output,
         out,
-        at,
-    )
+    );
+    let output = told.output;
+    State {
+        source,
+        tables,
+        output,
+        more: told.is_case,
+        is_end: false,
+    }
 }
 
 // One case.
@@ -211,57 +304,29 @@ fn turn(
     words: &mut [u32],
     out: &mut [u8],
 ) -> State
-    requires { ⌜ Within (state .source) (length (now input)) × (Lent (state .tables) × (Areas (length (now names)) (length (now ends)) × (state .at ≤ length (now out)))) ⌝ }
-    ensures { λ r. ⌜ Within (r .source) (length (now (input .exit))) × (Lent (r .tables) × (r .at ≤ length (now (out .exit)))) ⌝ }
+    requires { ⌜ Lent (state .tables) × Areas (length (now names)) (length (now ends)) ⌝ }
+    ensures { λ r. ⌜ Lent (r .tables) ⌝ }
 {
-    let at = state.at;
-    let tables = state.tables;
-    let mut header = [0u8; 24];
-    let head = take(state.source, input, &mut header);
-    let rest = head.source;
-    if head.count == 0 {
-        return State {
-            source: rest,
-            tables,
-            at,
-            more: false,
-            is_end: true,
-        };
+    match read_case(state.source, input, payload) {
+        Read::Case(rest, h) => {
+            if h.op == b'T' {
+                return with_table(state, h, rest, input, names, ends);
+            }
+            with_answer(state, h, rest, payload, names, ends, room, words, out)
+        }
+        Read::NoCase => ended(state, false),
+        Read::End => ended(state, true),
     }
-    if head.count < 24 {
-        return State {
-            source: rest,
-            tables,
-            at,
-            more: false,
-            is_end: false,
-        };
-    }
-    with_header(
-        read_header(&header),
-        rest,
-        tables,
-        input,
-        payload,
-        names,
-        ends,
-        room,
-        words,
-        out,
-        at,
-    )
 }
 
 // The end of a run: a line if there was no case, and what the output buffer holds.
-fn finish(state: State, out: &mut [u8])
-    requires { ⌜ state .at ≤ length (now out) ⌝ }
-{
-    let at = state.at;
+fn finish(state: State, out: &mut [u8]) {
+    let output = state.output;
     if state.is_end {
-        flush(out, at);
+        output.flush(out);
     } else {
-        let to = emit(out, at, b"bad case\n");
-        flush(out, to);
+        let last = output.text(out, b"bad case\n");
+        last.flush(out);
     }
 }
 
@@ -279,9 +344,9 @@ fn run(
 {
     let mut turns = u64::MAX;
     let mut state = State {
-        source: Source { at: 0, end: 0 },
+        source: Source::new(),
         tables: no_tables(),
-        at: 0,
+        output: Output::new(),
         more: true,
         is_end: false,
     };
@@ -297,10 +362,10 @@ fn with_large_areas(names: &mut [u8], words: &mut [u32])
     requires { ⌜ 2621440 ≡ length (now names) ⌝ }
 {
     let mut ends = end_area();
-    let mut input = area();
-    let mut payload = area();
-    let mut room = area();
-    let mut out = area();
+    let mut input = io::large_buffer();
+    let mut payload = io::large_buffer();
+    let mut room = io::large_buffer();
+    let mut out = io::large_buffer();
     run(
         &mut input,
         &mut payload,

@@ -3,10 +3,9 @@ use crate::output::Told;
 use crate::output::told_line;
 use byte_rules::names::is_reserved_name;
 use byte_rules::names::is_valid_label;
+use programs::Output;
 ghost use mathlib.Core.Path.{_≡_};
 ghost use mathlib.Core.Bool.{cond};
-ghost use Prim.Native.Nat.{_≤_};
-ghost use lib.ListN.{length};
 
 // 1 for yes, 0 for no.
 pub fn bit(yes: bool) -> u64
@@ -15,16 +14,10 @@ pub fn bit(yes: bool) -> u64
     if yes { 1 } else { 0 }
 }
 
-pub fn label(payload: &[u8], out: &mut [u8], at: usize) -> Told
-    requires { ⌜ at ≤ length (now out) ⌝ }
-    ensures { λ r. ⌜ r .at ≤ length (now (out .exit)) ⌝ }
-{
-    told_line(out, at, b"L", &[0, bit(is_valid_label(payload))])
+pub fn label(payload: &[u8], output: Output, out: &mut [u8]) -> Told {
+    told_line(output, out, b"L", &[0, bit(is_valid_label(payload))])
 }
 
-pub fn reserved(payload: &[u8], out: &mut [u8], at: usize) -> Told
-    requires { ⌜ at ≤ length (now out) ⌝ }
-    ensures { λ r. ⌜ r .at ≤ length (now (out .exit)) ⌝ }
-{
-    told_line(out, at, b"R", &[0, bit(is_reserved_name(payload))])
+pub fn reserved(payload: &[u8], output: Output, out: &mut [u8]) -> Told {
+    told_line(output, out, b"R", &[0, bit(is_reserved_name(payload))])
 }

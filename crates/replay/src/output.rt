@@ -1,118 +1,79 @@
-// Standard output, through a buffer that the caller lends. `at` is how much of it is used.
-use crate::bytes::copy;
-use crate::bytes::least;
-use crate::lines::put_fields;
-use crate::lines::put_hex;
-use libc::STDOUT_FILENO;
+// What an op answers: its lines, gathered in the buffer `out`.
+use basics::least;
+use programs::Output;
 ghost use mathlib.Core.Path.{_≡_};
-ghost use Prim.Native.Nat.{_+_, _≤_};
-ghost use lib.ListN.{length};
+ghost use Prim.Native.Nat.{_<_};
+ghost use Rattle.io.specs.Counts.{Counts};
+ghost use Rattle.programs.specs.Output.{Gathers};
+ghost use Rattle.replay.specs.Hex.{digitOf, hexOf};
 
-// What became of a case: whether it was one, and how much of the buffer is used now.
+// What became of a case: whether it was one, and the output after it.
 pub struct Told {
     pub is_case: bool,
-    pub at: usize,
+    pub output: Output,
 }
 
-pub fn no_case(at: usize) -> Told
-    ensures { λ r. ⌜ r .at ≡ at ⌝ }
-{
-    Told { is_case: false, at }
-}
-
-// Writes the buffer out.
-pub fn flush(out: &[u8], at: usize)
-    requires { ⌜ at ≤ length (now out) ⌝ }
-{
-    io::write_all(STDOUT_FILENO, &out[..at]);
-}
-
-// Writes a text: into the buffer, or where it does not fit, behind what the buffer holds.
-pub fn emit(out: &mut [u8], at: usize, text: &[u8]) -> usize
-    requires { ⌜ at ≤ length (now out) ⌝ }
-    ensures { λ r. ⌜ r ≤ length (now (out .exit)) ⌝ }
-{
-    if text.len() <= out.len() - at {
-        copy(text, &mut out[at..]);
-        return at + text.len();
+pub fn no_case(output: Output) -> Told {
+    Told {
+        is_case: false,
+        output,
     }
-    flush(out, at);
-    io::write_all(STDOUT_FILENO, text);
-    0
 }
 
-fn blank_line() -> [u8; 256]
-    ensures { λ r. ⌜ 256 ≡ length r ⌝ }
+// How many of a text's first n bytes there are: n, where it has as many.
+pub fn front(n: usize, text: &[u8]) -> usize
+    ensures { λ r. ⌜ Counts r (now (text .entry)) ⌝ }
 {
-    [0u8; 256]
+    least(n, text.len())
 }
 
-// Writes a word and numbers, parted by tabs.
-pub fn emit_fields(out: &mut [u8], at: usize, word: &[u8], numbers: &[u64]) -> usize
-    requires { ⌜ (at ≤ length (now out)) × ((length (now word) ≤ 16) × (length (now numbers) ≤ 10)) ⌝ }
-    ensures { λ r. ⌜ r ≤ length (now (out .exit)) ⌝ }
-{
-    let mut line = blank_line();
-    let n = put_fields(&mut line, word, numbers);
-    emit(out, at, &line[..n])
-}
-
-// The same as a line.
-pub fn emit_line(out: &mut [u8], at: usize, word: &[u8], numbers: &[u64]) -> usize
-    requires { ⌜ (at ≤ length (now out)) × ((length (now word) ≤ 16) × (length (now numbers) ≤ 10)) ⌝ }
-    ensures { λ r. ⌜ r ≤ length (now (out .exit)) ⌝ }
-{
-    let to = emit_fields(out, at, word, numbers);
-    emit(out, to, b"\n")
-}
-
-// Writes numbers alone as a line: a line of a byte and the numbers, without that byte and its tab.
-pub fn emit_record(out: &mut [u8], at: usize, numbers: &[u64]) -> usize
-    requires { ⌜ (at ≤ length (now out)) × (length (now numbers) ≤ 10) ⌝ }
-    ensures { λ r. ⌜ r ≤ length (now (out .exit)) ⌝ }
-{
-    let mut line = blank_line();
-    let n = put_fields(&mut line, b"-", numbers);
-    if n < 2 {
-        return at;
+// The answer of a case.
+pub fn answered(output: Output) -> Told {
+    Told {
+        is_case: true,
+        output,
     }
-    let to = emit(out, at, &line[2..n]);
-    emit(out, to, b"\n")
 }
 
 // The answer of a case that is one line.
-pub fn told_line(out: &mut [u8], at: usize, word: &[u8], numbers: &[u64]) -> Told
-    requires { ⌜ (at ≤ length (now out)) × ((length (now word) ≤ 16) × (length (now numbers) ≤ 10)) ⌝ }
-    ensures { λ r. ⌜ r .at ≤ length (now (out .exit)) ⌝ }
-{
-    Told {
-        is_case: true,
-        at: emit_line(out, at, word, numbers),
+pub fn told_line(output: Output, out: &mut [u8], word: &[u8], numbers: &[u64]) -> Told {
+    answered(output.line(out, word, numbers))
+}
+
+// A record as a line: its kind, and its other numbers behind it.
+pub fn emit_record(output: Output, out: &mut [u8], kind: u64, others: &[u64]) -> Output {
+    let begun = output.number(out, kind);
+    let filled = begun.fields(out, others);
+    filled.byte(out, b'\n')
+}
+
+// A line if the byte or word at i does not hold any more what it held before a call.
+pub fn emit_touch(output: Output, out: &mut [u8], i: usize, is_kept: bool) -> Output {
+    if is_kept {
+        return output;
     }
+    output.line(out, b"touched", &[i as u64])
 }
 
-// Writes at most 128 bytes in hex.
-fn emit_some_hex(out: &mut [u8], at: usize, bytes: &[u8]) -> usize
-    requires { ⌜ (at ≤ length (now out)) × (length (now bytes) ≤ 128) ⌝ }
-    ensures { λ r. ⌜ r ≤ length (now (out .exit)) ⌝ }
+// A hex digit, in lower case.
+fn digit(n: u8) -> u8
+    requires { ⌜ n < 16 ⌝ }
+    ensures { λ r. ⌜ r ≡ digitOf n ⌝ }
 {
-    let mut line = blank_line();
-    put_hex(&mut line, bytes);
-    let n = bytes.len() * 2;
-    emit(out, at, &line[..n])
+    if n < 10 { b'0' + n } else { b'a' + (n - 10) }
 }
 
-// Writes bytes in hex.
-pub fn emit_hex(out: &mut [u8], at: usize, bytes: &[u8]) -> usize
-    requires { ⌜ at ≤ length (now out) ⌝ }
-    ensures { λ r. ⌜ r ≤ length (now (out .exit)) ⌝ }
+// Bytes in hex.
+pub fn emit_hex(output: Output, out: &mut [u8], bytes: &[u8]) -> Output
+    ensures { λ r. ⌜ Gathers (hexOf (now (bytes .entry))) output (now (out .entry)) r (now (out .exit)) ⌝ }
 {
-    let mut to = at;
+    let mut to = output;
     let mut i = 0;
     while i < bytes.len() {
-        let end = i + least(128, bytes.len() - i);
-        to = emit_some_hex(out, to, &bytes[i..end]);
-        i = end;
+        let b = bytes[i];
+        let high = to.byte(out, digit(b / 16));
+        to = high.byte(out, digit(b % 16));
+        i += 1;
     }
     to
 }

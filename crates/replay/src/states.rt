@@ -64,7 +64,7 @@ pub fn record_of(waiting: Waiting) -> Placed {
 
 // The largest word stands for no italic end.
 fn italic_of(n: u32) -> usize {
-    if n == 4294967295 {
+    if n == u32::MAX {
         return ParserState::NO_ITALIC;
     }
     n as usize
@@ -72,7 +72,7 @@ fn italic_of(n: u32) -> usize {
 
 pub fn italic_word(n: usize) -> u64 {
     if n == ParserState::NO_ITALIC {
-        return 4294967295;
+        return u32::MAX as u64;
     }
     n as u64
 }

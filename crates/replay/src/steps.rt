@@ -2,7 +2,7 @@
 use crate::header::Header;
 use crate::names::bit;
 use crate::output::Told;
-use crate::output::emit_line;
+use crate::output::answered;
 use crate::output::emit_record;
 use crate::output::no_case;
 use crate::states::Words;
@@ -10,15 +10,12 @@ use crate::states::italic_word;
 use crate::states::read_state;
 use crate::states::record_of;
 use crate::texts::emit_text;
-use crate::texts::fill;
-use crate::texts::number_of;
 use comment_parser::CommentItem;
 use comment_parser::Next;
 use comment_parser::ParserState;
+use programs::Output;
+use programs::refusal_number;
 use records::Filled;
-ghost use Prim.Native.Nat.{_≤_};
-ghost use lib.ListN.{length};
-ghost use Rattle.replay.specs.Bounds.{Fits};
 
 // What some steps came to: the last answer, how many events there were, whether the last answer was the end, and the state after it.
 struct Walked {
@@ -48,7 +45,7 @@ fn walk(from: ParserState, buf: &[u8], most: u32) -> Walked {
             }
             Next::Refused(after, why) => {
                 return Walked {
-                    answer: number_of(why),
+                    answer: refusal_number(why),
                     count,
                     is_end: false,
                     state: after,
@@ -65,31 +62,30 @@ fn walk(from: ParserState, buf: &[u8], most: u32) -> Walked {
 }
 
 // The line of an event.
-fn emit_event(out: &mut [u8], at: usize, item: CommentItem) -> usize
-    requires { ⌜ at ≤ length (now out) ⌝ }
-    ensures { λ r. ⌜ r ≤ length (now (out .exit)) ⌝ }
-{
+fn emit_event(output: Output, out: &mut [u8], item: CommentItem) -> Output {
     let p = item.placed();
-    emit_record(
-        out,
-        at,
-        &[p.kind as u64, p.place as u64, p.start as u64, p.end as u64],
-    )
+    let place = p.place as u64;
+    let start = p.start as u64;
+    let end = p.end as u64;
+    emit_record(output, out, p.kind as u64, &[place, start, end])
 }
 
 // The lines of the first `count` events.
-fn emit_events(out: &mut [u8], at: usize, from: ParserState, buf: &[u8], count: u32) -> usize
-    requires { ⌜ at ≤ length (now out) ⌝ }
-    ensures { λ r. ⌜ r ≤ length (now (out .exit)) ⌝ }
-{
-    let mut to = at;
+fn emit_events(
+    output: Output,
+    out: &mut [u8],
+    from: ParserState,
+    buf: &[u8],
+    count: u32,
+) -> Output {
+    let mut to = output;
     let mut state = from;
     let mut i: u32 = 0;
     while i < count {
         let Next::Event(after, item) = state.next(buf) else {
             return to;
         };
-        to = emit_event(out, to, item);
+        to = emit_event(to, out, item);
         state = after;
         i += 1;
     }
@@ -97,18 +93,14 @@ fn emit_events(out: &mut [u8], at: usize, from: ParserState, buf: &[u8], count: 
 }
 
 // The line of a state.
-fn emit_state(out: &mut [u8], at: usize, state: ParserState) -> usize
-    requires { ⌜ at ≤ length (now out) ⌝ }
-    ensures { λ r. ⌜ r ≤ length (now (out .exit)) ⌝ }
-{
+fn emit_state(output: Output, out: &mut [u8], state: ParserState) -> Output {
     let waiting = state.waiting;
     let p = record_of(waiting);
     let math = bit(state.math);
     let html = bit(state.html);
     let italic = italic_word(state.end_italic);
-    emit_line(
+    output.line(
         out,
-        at,
         b"state",
         &[
             state.end as u64,
@@ -126,31 +118,22 @@ fn emit_state(out: &mut [u8], at: usize, state: ParserState) -> usize
 }
 
 // The steps are made twice: once to count the events, for the head line, and once to write them.
-fn emit_steps(out: &mut [u8], at: usize, from: ParserState, buf: &[u8], most: u32) -> usize
-    requires { ⌜ at ≤ length (now out) ⌝ }
-    ensures { λ r. ⌜ r ≤ length (now (out .exit)) ⌝ }
-{
+fn emit_steps(output: Output, out: &mut [u8], from: ParserState, buf: &[u8], most: u32) -> Output {
     let walked = walk(from, buf, most);
     let ended = bit(walked.is_end);
-    let head = emit_line(out, at, b"S", &[walked.answer, walked.count as u64, ended]);
-    let body = emit_events(out, head, from, buf, walked.count);
-    emit_state(out, body, walked.state)
+    let head = output.line(out, b"S", &[walked.answer, walked.count as u64, ended]);
+    let body = emit_events(head, out, from, buf, walked.count);
+    emit_state(body, out, walked.state)
 }
 
-pub fn stepping(h: Header, payload: &[u8], out: &mut [u8], at: usize) -> Told
-    requires { ⌜ at ≤ length (now out) ⌝ }
-    ensures { λ r. ⌜ r .at ≤ length (now (out .exit)) ⌝ }
-{
+pub fn stepping(h: Header, payload: &[u8], output: Output, out: &mut [u8]) -> Told {
     if payload.len() < 40 {
-        return no_case(at);
+        return no_case(output);
     }
     let Words::Are(state) = read_state(payload) else {
-        return no_case(at);
+        return no_case(output);
     };
-    Told {
-        is_case: true,
-        at: emit_steps(out, at, state, &payload[40..], h.c),
-    }
+    answered(emit_steps(output, out, state, &payload[40..], h.c))
 }
 
 // The call that the flag names: 2 a label's, 3 math's, else a text's.
@@ -161,9 +144,7 @@ fn own_by(
     start: usize,
     end: usize,
     room: &mut [u8],
-) -> Filled
-    ensures { λ r. ⌜ Fits r (length (now (room .exit))) ⌝ }
-{
+) -> Filled {
     if flag == 2 {
         return state.unescape_label(buf, start, end, room);
     }
@@ -173,43 +154,35 @@ fn own_by(
     state.unescape_text(buf, start, end, room)
 }
 
-// The span unescaped into the whole of `room`.
-fn own_unescaped(
+// The span unescaped into the room.
+fn emit_own(
     h: Header,
     state: ParserState,
     buf: &[u8],
     room: &mut [u8],
+    output: Output,
     out: &mut [u8],
-    at: usize,
-) -> Told
-    requires { ⌜ at ≤ length (now out) ⌝ }
-    ensures { λ r. ⌜ r .at ≤ length (now (out .exit)) ⌝ }
-{
-    fill(room);
+) -> Output {
     let filled = own_by(h.flag, state, buf, h.a as usize, h.b as usize, room);
-    Told {
-        is_case: true,
-        at: emit_text(out, at, b"V", filled, room),
-    }
+    emit_text(output, out, b"V", filled, room)
 }
 
-pub fn own_unescaping(h: Header, payload: &[u8], room: &mut [u8], out: &mut [u8], at: usize) -> Told
-    requires { ⌜ at ≤ length (now out) ⌝ }
-    ensures { λ r. ⌜ r .at ≤ length (now (out .exit)) ⌝ }
-{
-    let lent = h.room as usize;
-    if room.len() < lent {
-        return no_case(at);
-    }
+pub fn own_unescaping(
+    h: Header,
+    payload: &[u8],
+    room: &mut [u8],
+    output: Output,
+    out: &mut [u8],
+) -> Told {
     let flag = h.flag;
     if (flag == 1) | (3 < flag) {
-        return no_case(at);
+        return no_case(output);
     }
     if payload.len() < 40 {
-        return no_case(at);
+        return no_case(output);
     }
     let Words::Are(state) = read_state(payload) else {
-        return no_case(at);
+        return no_case(output);
     };
-    own_unescaped(h, state, &payload[40..], &mut room[..lent], out, at)
+    answered(emit_own(h, state, &payload[40..], room, output, out))
 }

@@ -1,13 +1,12 @@
 // Op T: the tables that are lent from case to case. All names' bytes stand in one area and all ends in another; each table has a part of both.
 use crate::header::Header;
 use crate::header::word;
-use crate::input::Source;
-use crate::input::Taken;
-use crate::input::take;
+use programs::Source;
+use programs::Taken;
+ghost use mathlib.Core.Path.{_≡_};
 ghost use Prim.Native.Nat.{_+_, _≤_};
 ghost use lib.ListN.{length};
-ghost use Rattle.replay.specs.Bounds.{Within};
-ghost use Rattle.replay.specs.Tables.{Areas, Standing, Lent, Placed};
+ghost use Rattle.replay.specs.Tables.{Areas, Standing, Lent, Stands};
 
 // Where a table stands: its names' bytes in the one area, its ends in the other.
 pub struct Table {
@@ -55,6 +54,24 @@ pub fn no_tables() -> Tables
     }
 }
 
+// The bytes of a table's names.
+pub fn names_of(names: &[u8], table: Table) -> &[u8]
+    requires { ⌜ Standing table × (2621440 ≡ length (now names)) ⌝ }
+{
+    let from = table.from;
+    let to = table.to;
+    &names[from..to]
+}
+
+// The ends of a table's names.
+pub fn ends_of(ends: &[u32], table: Table) -> &[u32]
+    requires { ⌜ Standing table × (262144 ≡ length (now ends)) ⌝ }
+{
+    let first = table.first;
+    let last = table.last;
+    &ends[first..last]
+}
+
 // A table's part of the areas: where it begins, and how many bytes and ends it has.
 struct Part {
     from: usize,
@@ -92,26 +109,26 @@ fn part_of(flag: u8) -> Part
 }
 
 // Where a table goes, if its numbers are those of a case.
-enum Place {
-    At(Table),
+enum Spot {
+    Of(Table),
     Nowhere,
 }
 
-// The place of a table of `a` ends in a payload of `n` bytes.
-fn place_of(part: Part, a: usize, n: usize) -> Place
+// The spot of a table of `a` ends in a payload of `n` bytes.
+fn spot_of(part: Part, a: usize, n: usize) -> Spot
     requires { ⌜ (part .from + part .bytes ≤ 2621440) × (part .first + part .ends ≤ 262144) ⌝ }
-    ensures { λ r. ⌜ Placed r ⌝ }
+    ensures { λ r. ⌜ Stands r ⌝ }
 {
     if part.bytes < n {
-        return Place::Nowhere;
+        return Spot::Nowhere;
     }
     if part.ends < a {
-        return Place::Nowhere;
+        return Spot::Nowhere;
     }
     if n < a * 4 {
-        return Place::Nowhere;
+        return Spot::Nowhere;
     }
-    Place::At(Table {
+    Spot::Of(Table {
         from: part.from,
         to: part.from + (n - a * 4),
         first: part.first,
@@ -126,12 +143,9 @@ struct Word {
     count: usize,
 }
 
-fn take_word(source: Source, input: &mut [u8]) -> Word
-    requires { ⌜ Within source (length (now input)) ⌝ }
-    ensures { λ r. ⌜ Within (r .source) (length (now (input .exit))) ⌝ }
-{
+fn take_word(source: Source, input: &mut [u8]) -> Word {
     let mut four = [0u8; 4];
-    let taken = take(source, input, &mut four);
+    let taken = source.take(input, &mut four);
     let rest = taken.source;
     Word {
         source: rest,
@@ -141,10 +155,7 @@ fn take_word(source: Source, input: &mut [u8]) -> Word
 }
 
 // Takes words until `to` is full or the input ends.
-fn take_words(source: Source, input: &mut [u8], to: &mut [u32]) -> Taken
-    requires { ⌜ Within source (length (now input)) ⌝ }
-    ensures { λ r. ⌜ Within (r .source) (length (now (input .exit))) ⌝ }
-{
+fn take_words(source: Source, input: &mut [u8], to: &mut [u32]) -> Taken {
     let mut left = source;
     let mut done = 0;
     while done < to.len() {
@@ -179,8 +190,7 @@ fn read_table(
     ends: &mut [u32],
     table: Table,
 ) -> Read
-    requires { ⌜ Within source (length (now input)) × (Standing table × Areas (length (now names)) (length (now ends))) ⌝ }
-    ensures { λ r. ⌜ Within (r .source) (length (now (input .exit))) ⌝ }
+    requires { ⌜ Standing table × Areas (length (now names)) (length (now ends)) ⌝ }
 {
     let first = table.first;
     let last = table.last;
@@ -194,7 +204,7 @@ fn read_table(
     }
     let from = table.from;
     let to = table.to;
-    let body = take(rest, input, &mut names[from..to]);
+    let body = rest.take(input, &mut names[from..to]);
     let left = body.source;
     Read {
         source: left,
@@ -255,8 +265,8 @@ pub fn lend(
     names: &mut [u8],
     ends: &mut [u32],
 ) -> Lending
-    requires { ⌜ Within source (length (now input)) × (Lent tables × Areas (length (now names)) (length (now ends))) ⌝ }
-    ensures { λ r. ⌜ Within (r .source) (length (now (input .exit))) × Lent (r .tables) ⌝ }
+    requires { ⌜ Lent tables × Areas (length (now names)) (length (now ends)) ⌝ }
+    ensures { λ r. ⌜ Lent (r .tables) ⌝ }
 {
     let flag = h.flag;
     if 3 < flag {
@@ -266,7 +276,7 @@ pub fn lend(
             is_case: false,
         };
     }
-    let Place::At(table) = place_of(part_of(flag), count_of(h), h.n as usize) else {
+    let Spot::Of(table) = spot_of(part_of(flag), count_of(h), h.n as usize) else {
         return Lending {
             source,
             tables,

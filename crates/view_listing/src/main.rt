@@ -1,64 +1,40 @@
-// Lists a sample comment of document 01, read through a view: the answer, and then the words of the room, four to a line.
+// Lists a sample comment of document 01, read through a view: the answer, and then the words of the room, a record to a line.
 // First with room for all, then with room for two records and three words, then over a span that is refused.
 use comment_view::events_by_view;
-use decimal::put_decimal;
+use events::EVENT_WIDTH;
+use programs::Output;
 use records::Filled;
 
-fn show_number(n: u64) {
-    let mut digits = [0u8; 20];
-    let put = put_decimal(&mut digits, n);
-    if let Filled::Done(len) = put {
-        if len <= 20 {
-            io::write_all(1, &digits[..len]);
-        }
-    }
+// A line of a word and a number, parted by a space.
+fn put_count(output: Output, buffer: &mut [u8], word: &[u8], n: usize) -> Output {
+    let begun = output.text(buffer, word);
+    let parted = begun.byte(buffer, b' ');
+    let told = parted.number(buffer, n as u64);
+    told.byte(buffer, b'\n')
 }
 
-fn show_word(word: u32) {
-    show_number(word as u64);
-}
-
-fn show_answer(answer: Filled) {
+fn put_answer(output: Output, buffer: &mut [u8], answer: Filled) -> Output {
     match answer {
-        Filled::Done(n) => {
-            io::write_all(1, b"done ");
-            show_number(n as u64);
-        }
-        Filled::Short(n) => {
-            io::write_all(1, b"short ");
-            show_number(n as u64);
-        }
-        Filled::Refused(_) => {
-            io::write_all(1, b"refused");
-        }
-    }
-    io::write_all(1, b"\n");
-}
-
-fn show_words(room: &[u32]) {
-    let mut i: usize = 0;
-    while i < room.len() {
-        show_word(room[i]);
-        i += 1;
-        if i % 4 == 0 {
-            io::write_all(1, b"\n");
-        } else {
-            io::write_all(1, b"\t");
-        }
+        Filled::Done(n) => put_count(output, buffer, b"done", n),
+        Filled::Short(n) => put_count(output, buffer, b"short", n),
+        Filled::Refused(_) => output.text(buffer, b"refused\n"),
     }
 }
 
-fn show(end: usize, room: &mut [u32]) {
-    show_answer(events_by_view(b"x_0 ~ ax-1.", 0, end, room));
-    show_words(room);
+fn put_listing(output: Output, buffer: &mut [u8], end: usize, room: &mut [u32]) -> Output {
+    let answer = events_by_view(b"x_0 ~ ax-1.", 0, end, room);
+    let head = put_answer(output, buffer, answer);
+    head.rows(buffer, room, EVENT_WIDTH)
 }
 
 fn main() {
+    let mut buffer = io::buffer();
     let mut all = [77u32; 24];
-    show(11, &mut all);
+    let first = put_listing(Output::new(), &mut buffer, 11, &mut all);
     let mut two = [77u32; 11];
-    show(11, &mut two);
-    io::write_all(1, b"\n");
+    let second = put_listing(first, &mut buffer, 11, &mut two);
+    let parted = second.byte(&mut buffer, b'\n');
     let mut one = [77u32; 4];
-    show(12, &mut one);
+    let last = put_listing(parted, &mut buffer, 12, &mut one);
+    last.flush(&buffer);
 }

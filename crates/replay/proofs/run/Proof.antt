@@ -1,30 +1,34 @@
--- `run` is safe and ends. The measure is the number of turns that are left.
+-- `run` is safe and ends: each area keeps its length. The measure is the number of turns that are left.
 -- Assumes nothing.
-use Prim.Native.Nat.{_≤_}
 use mathlib.Core.Path.{_≡_, refl, _∙_}
 use native.Mathlib.Omega.{arith}
 use lib.ListN.{length}
-use Rattle.replay.specs.Bounds.{Within}
-use Rattle.replay.specs.Tables.{Areas, Lent}
+use Rattle.replay.specs.Tables.{Lent}
 use Rattle.replay.proofs.run.Statement.{statement}
 use Rattle.replay.proofs.run.Tie as tie
 
 abbrev Inv-loop : tie.InvT-loop
 Inv-loop input₀ payload₀ names₀ ends₀ room₀ words₀ out₀ turns₀ state₀ input payload names ends room words out turns state =
-    (Within (state .source) (length input) × (Lent (state .tables) × (Areas (length names) (length ends) × (state .at ≤ length out)))) × ((length input ≡ length input₀) × ((length payload ≡ length payload₀) × ((length names ≡ length names₀) × ((length ends ≡ length ends₀) × ((length room ≡ length room₀) × ((length words ≡ length words₀) × (length out ≡ length out₀)))))))
+    Lent (state .tables) × (length input ≡ length input₀) × (length payload ≡ length payload₀) × (length names ≡ length names₀) × (length ends ≡ length ends₀) × (length room ≡ length room₀) × (length words ≡ length words₀) × (length out ≡ length out₀)
 
 abbrev μ-loop : tie.MeasureT-loop
 μ-loop input₀ payload₀ names₀ ends₀ room₀ words₀ out₀ turns₀ state₀ input payload names ends room words out turns state =
     turns
 
+new-requires : tie.Need-new-requires Inv-loop μ-loop
+new-requires c κs = tt
+
 no-tables-requires : tie.Need-no-tables-requires Inv-loop μ-loop
 no-tables-requires c κs = tt
 
+new-requires-2 : tie.Need-new-requires-2 Inv-loop μ-loop
+new-requires-2 c κs = tt
+
 loop-holds : tie.Need-loop-holds Inv-loop μ-loop
-loop-holds c = ((record { order = omega arith; inside = omega arith }, (c .no-tables .ensures, (c .before .before .before .before .before .before .before .before .pre, omega arith))), (refl, (refl, (refl, (refl, (refl, (refl, refl)))))))
+loop-holds c = (c .before .no-tables .ensures, refl, refl, refl, refl, refl, refl, refl)
 
 turn-requires : tie.Need-turn-requires Inv-loop μ-loop
-turn-requires c κs = c .before .before .before .before .before .before .before .before .before .loop .inv .0
+turn-requires c κs = let l = c .before .before .before .before .before .before .before .before .before .loop in (l .inv .0, rw (l .inv .3, l .inv .4) (c .before .before .before .before .before .before .before .before .before .before .before .before .before .before .before .before .before .before .before .before .pre))
 
 sub-turns : tie.Need-sub-turns Inv-loop μ-loop
 sub-turns c = omega arith
@@ -34,33 +38,40 @@ loop-less c = omega arith
 
 loop-again : tie.Need-loop-again Inv-loop μ-loop
 loop-again c =
-    let inv = c .before .before .before .before .before .before .before .before .before .before .before .before .before .before .before .before .before .before .before .before .before .before .before .before .loop .inv in
-    let after = c .before .before .before .before .before .before .before .before .before .before .before .before .before .before .turn .ensures in
-    ((after .0, (after .1 .0, (record { all-bytes = omega (arith, inv .0 .1 .1 .0 .all-bytes, c .before .before .before .before .before .before .before .before .before .names .given); all-ends = omega (arith, inv .0 .1 .1 .0 .all-ends, c .before .before .before .before .before .before .before .ends .given) }, after .1 .1))), (c .before .before .before .before .before .before .before .before .before .before .before .before .before .input .given ∙ inv .1 .0, (c .before .before .before .before .before .before .before .before .before .before .before .payload .given ∙ inv .1 .1 .0, (c .before .before .before .before .before .before .before .before .before .names .given ∙ inv .1 .1 .1 .0, (c .before .before .before .before .before .before .before .ends .given ∙ inv .1 .1 .1 .1 .0, (c .before .before .before .before .before .room .given ∙ inv .1 .1 .1 .1 .1 .0, (c .before .before .before .words .given ∙ inv .1 .1 .1 .1 .1 .1 .0, c .before .out .given ∙ inv .1 .1 .1 .1 .1 .1 .1)))))))
+    let inv = c .before .before .before .before .before .before .before .before .before .before .before .before .before .before .before .before .before .before .before .before .before .before .before .before .loop .inv in (
+      c .before .before .before .before .before .before .before .before .before .before .before .before .before .before .turn .ensures,
+      c .before .before .before .before .before .before .before .before .before .before .before .before .before .input .given ∙ inv .1,
+      c .before .before .before .before .before .before .before .before .before .before .before .payload .given ∙ inv .2,
+      c .before .before .before .before .before .before .before .before .before .names .given ∙ inv .3,
+      c .before .before .before .before .before .before .before .ends .given ∙ inv .4,
+      c .before .before .before .before .before .room .given ∙ inv .5,
+      c .before .before .before .words .given ∙ inv .6,
+      c .before .out .given ∙ inv .7,
+    )
 
 finish-requires : tie.Need-finish-requires Inv-loop μ-loop
-finish-requires c κs = c .before .before .loop .inv .0 .1 .1 .1
+finish-requires c κs = tt
 
 same-length : tie.Need-same-length Inv-loop μ-loop
-same-length c = c .before .before .before .before .before .loop .inv .1 .0
+same-length c = c .before .before .before .before .before .loop .inv .1
 
 same-length-2 : tie.Need-same-length-2 Inv-loop μ-loop
-same-length-2 c = c .before .before .before .before .before .loop .inv .1 .1 .0
+same-length-2 c = c .before .before .before .before .before .loop .inv .2
 
 same-length-3 : tie.Need-same-length-3 Inv-loop μ-loop
-same-length-3 c = c .before .before .before .before .before .loop .inv .1 .1 .1 .0
+same-length-3 c = c .before .before .before .before .before .loop .inv .3
 
 same-length-4 : tie.Need-same-length-4 Inv-loop μ-loop
-same-length-4 c = c .before .before .before .before .before .loop .inv .1 .1 .1 .1 .0
+same-length-4 c = c .before .before .before .before .before .loop .inv .4
 
 same-length-5 : tie.Need-same-length-5 Inv-loop μ-loop
-same-length-5 c = c .before .before .before .before .before .loop .inv .1 .1 .1 .1 .1 .0
+same-length-5 c = c .before .before .before .before .before .loop .inv .5
 
 same-length-6 : tie.Need-same-length-6 Inv-loop μ-loop
-same-length-6 c = c .before .before .before .before .before .loop .inv .1 .1 .1 .1 .1 .1 .0
+same-length-6 c = c .before .before .before .before .before .loop .inv .6
 
 same-length-7 : tie.Need-same-length-7 Inv-loop μ-loop
-same-length-7 c = c .before .out2 .given ∙ c .before .before .before .before .before .loop .inv .1 .1 .1 .1 .1 .1 .1
+same-length-7 c = c .before .out2 .given ∙ c .before .before .before .before .before .loop .inv .7
 
 returns : tie.Need-returns Inv-loop μ-loop
 returns c = tt
@@ -71,7 +82,9 @@ run-spec =
     (tie.spec
     Inv-loop
     μ-loop
+    new-requires
     no-tables-requires
+    new-requires-2
     loop-holds
     turn-requires
     sub-turns

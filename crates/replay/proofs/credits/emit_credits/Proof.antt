@@ -1,6 +1,6 @@
--- `emit_credits` meets its contract. The measure is the number of parentheticals that are left.
+-- `emit_credits` is safe and ends. The measure is the number of parentheticals that are left.
 -- Assumes nothing.
-use Prim.Native.Nat.{_-_, _≤_}
+use Prim.Native.Nat.{_-_}
 use mathlib.Core.Path.{_≡_, refl}
 use native.Mathlib.Omega.{arith}
 use lib.ListN.{length}
@@ -9,13 +9,13 @@ use Rattle.replay.proofs.credits.emit_credits.Statement.{statement}
 use Rattle.replay.proofs.credits.emit_credits.Tie as tie
 
 abbrev Inv-loop : tie.InvT-loop
-Inv-loop out₀ at buf count to₀ state₀ i₀ out to state i = (to ≤ length out) × (length out ≡ length out₀)
+Inv-loop out₀ buf count to₀ state₀ i₀ out to state i = length out ≡ length out₀
 
 abbrev μ-loop : tie.MeasureT-loop
-μ-loop out₀ at buf count to₀ state₀ i₀ out to state i = count - i
+μ-loop out₀ buf count to₀ state₀ i₀ out to state i = count - i
 
 loop-holds : tie.Need-loop-holds Inv-loop μ-loop
-loop-holds c = (omega arith, refl)
+loop-holds c = refl
 
 next-requires : tie.Need-next-requires Inv-loop μ-loop
 next-requires c κs = tt
@@ -27,10 +27,10 @@ same-length : tie.Need-same-length Inv-loop μ-loop
 same-length c = omega arith
 
 returns : tie.Need-returns Inv-loop μ-loop
-returns c = omega arith
+returns c = tt
 
 emit-found-requires : tie.Need-emit-found-requires Inv-loop μ-loop
-emit-found-requires c κs = omega arith
+emit-found-requires c κs = tt
 
 add-i : tie.Need-add-i Inv-loop μ-loop
 add-i c = omega arith
@@ -39,13 +39,13 @@ loop-less : tie.Need-loop-less Inv-loop μ-loop
 loop-less c = omega arith
 
 loop-again : tie.Need-loop-again Inv-loop μ-loop
-loop-again c = (omega arith, omega arith)
+loop-again c = omega arith
 
 same-length-2 : tie.Need-same-length-2 Inv-loop μ-loop
 same-length-2 c = omega arith
 
 returns-2 : tie.Need-returns-2 Inv-loop μ-loop
-returns-2 c = omega arith
+returns-2 c = tt
 
 pub emit-credits-spec : {M : Type 1} → statement M
 emit-credits-spec =

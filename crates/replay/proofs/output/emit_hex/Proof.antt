@@ -1,53 +1,75 @@
--- `emit_hex` meets its contract. The measure is what is left of the bytes.
+-- `emit_hex` meets its contract. The invariant: to gather the bytes that are left is to gather all from the start.
 -- Assumes nothing.
-use Prim.Native.Nat.{_-_, _≤_}
-use mathlib.Core.Path.{_≡_, refl}
+use Prim.Native.Nat.{_+_, _-_, _/_, _%_, _≤_}
+use mathlib.Core.Path.{_≡_, refl, _∙_}
+use mathlib.Core.List.{[], _∷_, _++_}
 use native.Mathlib.Omega.{arith}
-use lib.ListN.{length}
+use lib.ListN.{length, getD, drop, drop-of-length-le}
+use Rattle.programs.specs.Output.{waiting, gathered}
+use Rattle.programs.proofs.Gathering.{gather-both, gather-on, gather-end}
+use Rattle.replay.specs.Hex.{digitOf, hexOf}
+use Rattle.replay.proofs.Hex.{hex-at}
 use Rattle.replay.proofs.output.emit_hex.Statement.{statement}
 use Rattle.replay.proofs.output.emit_hex.Tie as tie
 
 abbrev Inv-loop : tie.InvT-loop
-Inv-loop out₀ at bytes to₀ i₀ out to i = (to ≤ length out) × ((i ≤ length bytes) × (length out ≡ length out₀))
+Inv-loop out₀ bytes to₀ i₀ out to i =
+    (i ≤ length bytes) × (length out ≡ length out₀)
+    × (gathered (length out₀) (waiting to out) (hexOf (drop i bytes)) ≡ gathered (length out₀) (waiting to₀ out₀) (hexOf bytes))
 
 abbrev μ-loop : tie.MeasureT-loop
-μ-loop out₀ at bytes to₀ i₀ out to i = length bytes - i
+μ-loop out₀ bytes to₀ i₀ out to i = length bytes - i
 
 loop-holds : tie.Need-loop-holds Inv-loop μ-loop
-loop-holds c = (omega arith, (omega arith, refl))
+loop-holds c = (omega arith, refl, refl)
 
-sub-least : tie.Need-sub-least Inv-loop μ-loop
-sub-least c = omega arith
+shared-slice-read-b : tie.Need-shared-slice-read-b Inv-loop μ-loop
+shared-slice-read-b c = omega arith
 
-least-requires : tie.Need-least-requires Inv-loop μ-loop
-least-requires c κs = tt
+digit-requires : tie.Need-digit-requires Inv-loop μ-loop
+digit-requires c κs = omega (arith, c .before .shared-slice-known2 .given (c .before .before .before .loop .i))
 
-add-end : tie.Need-add-end Inv-loop μ-loop
-add-end c = omega arith
+byte-requires : tie.Need-byte-requires Inv-loop μ-loop
+byte-requires c κs = tt
 
-sub-emit-some-hex : tie.Need-sub-emit-some-hex Inv-loop μ-loop
-sub-emit-some-hex c = omega arith
+digit-requires-2 : tie.Need-digit-requires-2 Inv-loop μ-loop
+digit-requires-2 c κs = omega arith
 
-part-emit-some-hex-start : tie.Need-part-emit-some-hex-start Inv-loop μ-loop
-part-emit-some-hex-start c = omega arith
+byte-requires-2 : tie.Need-byte-requires-2 Inv-loop μ-loop
+byte-requires-2 c κs = tt
 
-part-emit-some-hex-end : tie.Need-part-emit-some-hex-end Inv-loop μ-loop
-part-emit-some-hex-end c = omega arith
-
-emit-some-hex-requires : tie.Need-emit-some-hex-requires Inv-loop μ-loop
-emit-some-hex-requires c κs = (omega arith, omega arith)
+add-i : tie.Need-add-i Inv-loop μ-loop
+add-i c = omega arith
 
 loop-less : tie.Need-loop-less Inv-loop μ-loop
-loop-less c = omega (arith, c .before .before .before .before .before .least .ensures .1 .1 (omega arith) (omega arith))
+loop-less c = omega arith
 
 loop-again : tie.Need-loop-again Inv-loop μ-loop
-loop-again c = (omega arith, (omega arith, omega arith))
+loop-again c =
+    let l = c .before .before .before .before .before .before .before .before .before .before .before .before .loop in
+    let a = c .before .before .before .before .before .before .before .before .before .before .before .before .before .before .before .args in
+    let bytes = a .bytes .now in
+    let b = getD bytes (l .i) 0 in
+    let room = length (a .out .now) in
+    let old = waiting (l .to) (l .out) in
+    let same = l .inv .1 in
+    let high = rw (same, c .before .before .before .before .before .before .before .before .digit .ensures) at (c .before .before .before .before .before .before .before .byte .ensures) in
+    let low = rw (c .before .before .before .before .before .before .out .given ∙ same, c .before .before .before .digit2 .ensures) at (c .before .before .byte2 .ensures) in (
+      omega arith,
+      omega arith,
+      gather-on room old ((digitOf (b / 16) ∷ []) ++ (digitOf (b % 16) ∷ [])) (hexOf (drop (l .i + 1) bytes)) (hex-at bytes (l .i) (omega arith))
+          (gather-both room old (digitOf (b / 16) ∷ []) (digitOf (b % 16) ∷ []) high low) (l .inv .2),
+    )
 
 same-length : tie.Need-same-length Inv-loop μ-loop
 same-length c = omega arith
 
 returns : tie.Need-returns Inv-loop μ-loop
-returns c = omega arith
+unfolding hexOf
+returns c =
+    let l = c .before .loop in
+    let a = c .before .before .before .before .args in
+    gather-end (length (a .out .now)) (waiting (l .to) (l .out)) (hexOf (drop (l .i) (a .bytes .now))) (rw (drop-of-length-le (a .bytes .now) {i = l .i} (omega arith))) (l .inv .2)
 
 pub emit-hex-spec : {M : Type 1} → statement M
 emit-hex-spec =
@@ -56,13 +78,12 @@ emit-hex-spec =
     Inv-loop
     μ-loop
     loop-holds
-    sub-least
-    least-requires
-    add-end
-    sub-emit-some-hex
-    part-emit-some-hex-start
-    part-emit-some-hex-end
-    emit-some-hex-requires
+    shared-slice-read-b
+    digit-requires
+    byte-requires
+    digit-requires-2
+    byte-requires-2
+    add-i
     loop-less
     loop-again
     same-length

@@ -39,8 +39,8 @@ returns c = tt
 enum-known-after-3 : tie.Need-enum-known-after-3 Inv-loop μ-loop
 enum-known-after-3 c = search needs
 
-number-of-requires : tie.Need-number-of-requires Inv-loop μ-loop
-number-of-requires c κs = tt
+refusal-number-requires : tie.Need-refusal-number-requires Inv-loop μ-loop
+refusal-number-requires c κs = tt
 
 returns-2 : tie.Need-returns-2 Inv-loop μ-loop
 returns-2 c = tt
@@ -63,6 +63,6 @@ walk-spec =
     enum-known-after-2
     returns
     enum-known-after-3
-    number-of-requires
+    refusal-number-requires
     returns-2
     returns-3)

@@ -1,4 +1,4 @@
--- `lend` meets its contract: a place that is given stands in the areas.
+-- `lend` meets its contract: a table that is given a spot stands in the areas.
 -- Assumes nothing.
 use borrow.Author.Needs.{needs}
 use Rattle.replay.proofs.tables.lend.Statement.{statement}
@@ -13,11 +13,11 @@ part-of-requires c κs = search needs
 count-of-requires : tie.Need-count-of-requires
 count-of-requires c κs = search needs
 
-cast-place-of : tie.Need-cast-place-of
-cast-place-of c = search needs
+cast-spot-of : tie.Need-cast-spot-of
+cast-spot-of c = search needs
 
-place-of-requires : tie.Need-place-of-requires
-place-of-requires c κs = search needs
+spot-of-requires : tie.Need-spot-of-requires
+spot-of-requires c κs = search needs
 
 enum-known-table : tie.Need-enum-known-table
 enum-known-table c = search needs
@@ -29,10 +29,10 @@ returns-2 : tie.Need-returns-2
 returns-2 c = search needs
 
 read-table-requires : tie.Need-read-table-requires
-read-table-requires c κs = (c .before .before .before .before .before .before .before .before .before .before .before .before .before .before .pre .0, (c .before .before .before .before .before .before .place-of .ensures _ (c .before .before .before .before .table .given .1), c .before .before .before .before .before .before .before .before .before .before .before .before .before .before .pre .1 .1))
+read-table-requires c κs = (c .before .before .before .before .before .before .spot-of .ensures _ (c .before .before .before .before .table .given .1), c .before .before .before .before .before .before .before .before .before .before .before .before .before .before .pre .1)
 
 with-table-requires : tie.Need-with-table-requires
-with-table-requires c κs = (c .before .before .before .before .before .before .before .before .before .before .before .before .before .before .before .before .before .before .before .before .before .before .pre .1 .0, c .before .before .before .before .before .before .before .before .before .before .before .before .before .before .place-of .ensures _ (c .before .before .before .before .before .before .before .before .before .before .before .before .table .given .1))
+with-table-requires c κs = (c .before .before .before .before .before .before .before .before .before .before .before .before .before .before .before .before .before .before .before .before .before .before .pre .0, c .before .before .before .before .before .before .before .before .before .before .before .before .before .before .spot-of .ensures _ (c .before .before .before .before .before .before .before .before .before .before .before .before .table .given .1))
 
 same-length : tie.Need-same-length
 same-length c = search needs
@@ -53,8 +53,8 @@ lend-spec =
     returns
     part-of-requires
     count-of-requires
-    cast-place-of
-    place-of-requires
+    cast-spot-of
+    spot-of-requires
     enum-known-table
     enum-told
     returns-2

@@ -1,25 +1,24 @@
--- `take_words` meets its contract: what is left stays in the buffer. The measure is what is still to be filled.
+-- `take_words` is safe and ends. The measure is what is still to be filled.
 -- Assumes nothing.
 use Prim.Native.Nat.{_-_}
 use mathlib.Core.Path.{_≡_, refl}
 use native.Mathlib.Omega.{arith}
-use borrow.Author.Needs.{needs}
 use lib.ListN.{length, length-set}
-use Rattle.replay.specs.Bounds.{Within}
+use borrow.Author.Needs.{needs}
 use Rattle.replay.proofs.tables.take_words.Statement.{statement}
 use Rattle.replay.proofs.tables.take_words.Tie as tie
 
 abbrev Inv-loop : tie.InvT-loop
-Inv-loop input₀ to₀ left₀ done₀ input to left done = Within left (length input) × ((length input ≡ length input₀) × (length to ≡ length to₀))
+Inv-loop input₀ to₀ left₀ done₀ input to left done = (length input ≡ length input₀) × (length to ≡ length to₀)
 
 abbrev μ-loop : tie.MeasureT-loop
 μ-loop input₀ to₀ left₀ done₀ input to left done = length to₀ - done
 
 loop-holds : tie.Need-loop-holds Inv-loop μ-loop
-loop-holds c = (c .before .before .pre, (refl, refl))
+loop-holds c = (refl, refl)
 
 take-word-requires : tie.Need-take-word-requires Inv-loop μ-loop
-take-word-requires c κs = record { order = omega arith; inside = omega arith }
+take-word-requires c κs = tt
 
 same-length : tie.Need-same-length Inv-loop μ-loop
 same-length c = omega arith
@@ -28,7 +27,7 @@ same-length-2 : tie.Need-same-length-2 Inv-loop μ-loop
 same-length-2 c = omega arith
 
 returns : tie.Need-returns Inv-loop μ-loop
-returns c = record { order = omega arith; inside = omega arith }
+returns c = tt
 
 mul-to : tie.Need-mul-to Inv-loop μ-loop
 mul-to c = search needs
@@ -43,7 +42,7 @@ loop-less : tie.Need-loop-less Inv-loop μ-loop
 loop-less c = omega arith
 
 loop-again : tie.Need-loop-again Inv-loop μ-loop
-loop-again c = (record { order = omega arith; inside = omega arith }, (omega arith, simp length-set (omega arith)))
+loop-again c = (omega arith, simp length-set (omega arith))
 
 same-length-3 : tie.Need-same-length-3 Inv-loop μ-loop
 same-length-3 c = omega arith
@@ -52,7 +51,7 @@ same-length-4 : tie.Need-same-length-4 Inv-loop μ-loop
 same-length-4 c = omega arith
 
 returns-2 : tie.Need-returns-2 Inv-loop μ-loop
-returns-2 c = record { order = omega arith; inside = omega arith }
+returns-2 c = tt
 
 pub take-words-spec : {M : Type 1} → statement M
 take-words-spec =

@@ -5,7 +5,7 @@ use mathlib.Core.Path.{_≡_, refl}
 use native.Mathlib.Omega.{arith}
 use lib.ListN.{length}
 use Rattle.records.specs.Over.{over}
-use Rattle.replay.specs.Bounds.{patternTo}
+use Rattle.replay.specs.Pattern.{patternTo}
 use Rattle.replay.proofs.Rooms.{pattern-long, pattern-step, pattern-all}
 use Rattle.replay.proofs.texts.fill.Statement.{statement}
 use Rattle.replay.proofs.texts.fill.Tie as tie

@@ -1,0 +1,44 @@
+-- The listing: a header, and a line for each event with the kind's name, place, start and end.
+use Prim.Native.Nat.{ℕ}
+use mathlib.Core.List.{List, [], _∷_, _++_}
+use lib.ListN.{length}
+use Rattle.byte_rules.specs.Reading.{rust}
+use Rattle.byte_rules.specs.Text.{bytes}
+use Rattle.programs.specs.Lines.{line}
+use Rattle.comment_parser.specs.Item.{placedOf}
+use Rattle.comment_parser.specs.Events.{eventsOf}
+use Rattle.comment_parser.specs.declared.CommentItem.{CommentItem}
+use Rattle.comment_parser.specs.declared.CommentItem.the-variants.{Text, LineBreak, StartMathMode, EndMathMode, MathToken, Label, Url, StartHtml, EndHtml, StartSubscript, EndSubscript, StartItalic, EndItalic, BibTag}
+
+abbrev pub nameOf : CommentItem → List ℕ
+nameOf (Text s) = bytes "Text"
+nameOf (LineBreak a) = bytes "LineBreak"
+nameOf (StartMathMode a) = bytes "StartMathMode"
+nameOf (EndMathMode a) = bytes "EndMathMode"
+nameOf (MathToken s) = bytes "MathToken"
+nameOf (Label a s) = bytes "Label"
+nameOf (Url a s) = bytes "Url"
+nameOf (StartHtml a) = bytes "StartHtml"
+nameOf (EndHtml a) = bytes "EndHtml"
+nameOf (StartSubscript a) = bytes "StartSubscript"
+nameOf (EndSubscript a) = bytes "EndSubscript"
+nameOf (StartItalic a) = bytes "StartItalic"
+nameOf (EndItalic a) = bytes "EndItalic"
+nameOf (BibTag s) = bytes "BibTag"
+
+unfoldable pub lineOf : CommentItem → List ℕ
+lineOf i = let p = placedOf i in line (nameOf i) (p .place ∷ p .start ∷ p .end ∷ [])
+
+unfoldable pub linesOf : List CommentItem → List ℕ
+linesOf [] = []
+linesOf (i ∷ is) = lineOf i ++ linesOf is
+
+-- the lines of a whole comment's events
+abbrev pub eventLines : List ℕ → List ℕ
+eventLines comment = linesOf (eventsOf rust comment 0 (length comment))
+
+abbrev pub header : List ℕ
+header = bytes "kind\tplace\tstart\tend\n"
+
+unfoldable pub listing : List ℕ → List ℕ
+listing comment = header ++ eventLines comment

@@ -1,0 +1,4 @@
+pub mod Gathering
+mod Digits
+mod Listed
+mod Read

@@ -1,0 +1,14 @@
+-- `parting` meets its contract.
+-- Assumes nothing.
+use borrow.Author.Tests.{eq-eqb, ne-eqb}
+use Rattle.programs.proofs.lines.parting.Statement.{statement}
+use Rattle.programs.proofs.lines.parting.Tie as tie
+
+returns : tie.Need-returns
+returns c = simp (eq-eqb _ _ (c .if1 .taken))
+
+returns-2 : tie.Need-returns-2
+returns-2 c = simp (ne-eqb _ _ (c .if1 .left))
+
+pub parting-spec : {M : Type 1} → statement M
+parting-spec = tie.close (tie.spec returns returns-2)
