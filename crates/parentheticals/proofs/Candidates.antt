@@ -13,7 +13,8 @@ use Rattle.byte_rules.specs.Classes.{isCreditSpace}
 use Rattle.look.proofs.Laws.{byte-test}
 use Rattle.scans.specs.Plain.{Lacks, Lacking}
 use Rattle.scans.proofs.Laws.{clash}
-use Rattle.parentheticals.specs.Fields.{lparen, phraseAt, authorEnd}
+use Rattle.scans.specs.Marks.{lparen}
+use Rattle.parentheticals.specs.Fields.{phraseAt, authorEnd}
 use Rattle.parentheticals.specs.Matching.{headAt, noticeAt, tailAt, credited, noticed, restAt, creditAt, matchAt, firstOf, nextFrom, standsIn}
 use Rattle.parentheticals.specs.Inner.{Passed}
 use Rattle.parentheticals.specs.declared.Found.{Found}

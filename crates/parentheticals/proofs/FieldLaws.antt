@@ -16,7 +16,8 @@ use Rattle.byte_rules.specs.Utf8.{charLen}
 use Rattle.byte_rules.proofs.Laws.{nothing-barred}
 use Rattle.look.specs.Look.{byteAt}
 use Rattle.look.proofs.Laws.{holds-in, holds-past}
-use Rattle.parentheticals.specs.Fields.{lparen, comma, spaceRun, spaceEnd, spacesAt, signAt, phraseAt, fits, pictureAt}
+use Rattle.scans.specs.Marks.{lparen}
+use Rattle.parentheticals.specs.Fields.{comma, spaceRun, spaceEnd, spacesAt, signAt, phraseAt, fits, pictureAt}
 use Rattle.parentheticals.specs.Fields.{authorStart, authorByte, authorLen}
 
 -- ---- spaces

@@ -14,7 +14,8 @@ use Rattle.basics.specs.declared.Span.{Span}
 use Rattle.byte_rules.specs.Text.{bytes}
 use Rattle.look.specs.Look.{byteAt}
 use Rattle.look.proofs.Laws.{byte-within}
-use Rattle.parentheticals.specs.Fields.{lparen, comma, _>>=_, phraseAt, dateAt, authorEnd}
+use Rattle.scans.specs.Marks.{lparen}
+use Rattle.parentheticals.specs.Fields.{comma, _>>=_, phraseAt, dateAt, authorEnd}
 use Rattle.parentheticals.specs.Matching.{contributedBy, revisedBy, proofShortenedBy, proofModification, newUsage}
 use Rattle.parentheticals.specs.Matching.{ofKind, authorAfter, headAt, noticeAt, closing, tailAt, creditOf, noticeOf, credited, noticed}
 use Rattle.parentheticals.specs.Matching.{restAt, creditAt, matchAt, firstOf, nextFrom}

@@ -14,7 +14,8 @@ use Rattle.byte_rules.proofs.Characters.{char-same}
 use Rattle.look.specs.Look.{holdsAt, byteAt}
 use Rattle.look.proofs.Laws.{holds-within, byte-within}
 use Rattle.look.proofs.Alike.{holds-same, byte-same, same-part, Alike, alike-at, alike-here, alike-on, drop-same, cut-alike}
-use Rattle.parentheticals.specs.Fields.{lparen, comma, _>>=_, spacesAt, signAt, phraseAt, fits, pictureAt, dateAt}
+use Rattle.scans.specs.Marks.{lparen}
+use Rattle.parentheticals.specs.Fields.{comma, _>>=_, spacesAt, signAt, phraseAt, fits, pictureAt, dateAt}
 use Rattle.parentheticals.specs.Fields.{authorStart, authorByte, authorLen, authorWithin, authorEnd}
 use Rattle.parentheticals.specs.Matching.{contributedBy, revisedBy, proofShortenedBy, proofModification, newUsage}
 use Rattle.parentheticals.specs.Matching.{authorAfter, headAt, noticeAt, tailAt, restAt, creditAt, matchAt, firstOf, nextFrom, matchesFrom}

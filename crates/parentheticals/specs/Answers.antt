@@ -6,7 +6,7 @@ use mathlib.Core.Option.{Option, none, some}
 use lib.ListN.{length, take}
 use Rattle.byte_rules.specs.Reading.{Reading}
 use Rattle.records.specs.Answer.{Answer, given, unless, refusalAnswer, lengthRefusal, spanRefusal, stateRefusal}
-use Rattle.parentheticals.specs.Fields.{lparen}
+use Rattle.scans.specs.Marks.{lparen}
 use Rattle.parentheticals.specs.Matching.{proofModification, newUsage, nextFrom, standsIn}
 use Rattle.parentheticals.specs.Records.{recordOf}
 use Rattle.parentheticals.specs.declared.Found.{Found}

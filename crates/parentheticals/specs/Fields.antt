@@ -12,10 +12,7 @@ use Rattle.byte_rules.specs.Classes.{isCreditSpace, isDigit, isCapital, isSmall
 use Rattle.byte_rules.specs.Utf8.{charLen}
 use Rattle.look.specs.Look.{holdsAt, byteAt}
 
--- the bytes that are spoken of by name
-abbrev pub lparen : ℕ
-lparen = 40
-
+-- the byte that ends an author
 abbrev pub comma : ℕ
 comma = 44
 

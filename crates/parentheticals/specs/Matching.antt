@@ -10,7 +10,8 @@ use Rattle.basics.specs.declared.Span.{Span}
 use Rattle.byte_rules.specs.Text.{bytes}
 use Rattle.look.specs.Look.{byteAt}
 use Rattle.records.specs.Produced.{produced}
-use Rattle.parentheticals.specs.Fields.{lparen, _>>=_, phraseAt, dateAt, authorStart, authorEnd}
+use Rattle.scans.specs.Marks.{lparen}
+use Rattle.parentheticals.specs.Fields.{_>>=_, phraseAt, dateAt, authorStart, authorEnd}
 use Rattle.parentheticals.specs.declared.Parenthetical.{Parenthetical}
 use Rattle.parentheticals.specs.declared.Parenthetical.the-variants.{ContributedBy, RevisedBy, ProofShortenedBy}
 use Rattle.parentheticals.specs.declared.Parenthetical.the-variants.{ProofModificationDiscouraged, NewUsageDiscouraged}

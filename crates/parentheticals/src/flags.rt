@@ -1,7 +1,8 @@
 // The two notices, anywhere in a buffer.
 ghost use mathlib.Core.Path.{_≡_};
 ghost use mathlib.Core.List.{_∷_};
-ghost use Rattle.parentheticals.specs.Fields.{lparen, phraseAt};
+ghost use Rattle.scans.specs.Marks.{lparen};
+ghost use Rattle.parentheticals.specs.Fields.{phraseAt};
 ghost use Rattle.parentheticals.specs.Inner.{placeOf};
 ghost use Rattle.parentheticals.specs.Matching.{standsIn};
 ghost use Rattle.parentheticals.specs.Answers.{flaggedAnswer, discouragementsAnswer};

@@ -2,9 +2,8 @@
 ghost use mathlib.Core.Path.{_≡_};
 ghost use mathlib.Core.List.{[], _∷_};
 ghost use lib.ListN.{length};
-ghost use lib.Dec.{leb};
 ghost use Rattle.records.specs.Answer.{checkedAnswer, lengthRefusal, spanRefusal, stateRefusal, inputRefusal};
-ghost use Rattle.records.specs.Records.{put, laid, wroteOf};
+ghost use Rattle.records.specs.Records.{laid, wroteOf};
 
 // The most bytes of a buffer.
 pub const LONGEST: usize = 4294967295;
@@ -86,51 +85,6 @@ pub fn check_state(len: usize, pos: usize, end: usize) -> Checked
         return Checked::Refused(Refusal::BadState);
     }
     Checked::Good
-}
-
-// Writes the four words at the front of `room` if it has at least four, else leaves it.
-pub fn put4(room: &mut [u32], a: u32, b: u32, c: u32, d: u32) -> bool
-    ensures fits { λ r. ⌜ r ≡ leb 4 (length (now (room .entry))) ⌝ }
-    ensures left { λ r. ⌜ now (room .exit) ≡ put 4 (a ∷ b ∷ c ∷ d ∷ []) (now (room .entry)) ⌝ }
-{
-    if room.len() < 4 {
-        return false;
-    }
-    room[0] = a;
-    room[1] = b;
-    room[2] = c;
-    room[3] = d;
-    true
-}
-
-// The same for a record of seven words.
-pub fn put7(room: &mut [u32], a: u32, b: u32, c: u32, d: u32, e: u32, f: u32, g: u32) -> bool
-    ensures fits { λ r. ⌜ r ≡ leb 7 (length (now (room .entry))) ⌝ }
-    ensures left { λ r. ⌜ now (room .exit) ≡ put 7 (a ∷ b ∷ c ∷ d ∷ e ∷ f ∷ g ∷ []) (now (room .entry)) ⌝ }
-{
-    if room.len() < 7 {
-        return false;
-    }
-    room[0] = a;
-    room[1] = b;
-    room[2] = c;
-    room[3] = d;
-    room[4] = e;
-    room[5] = f;
-    room[6] = g;
-    true
-}
-
-// A writer of one record, in the form of a writer of some.
-pub fn lay4(room: &mut [u32], a: u32, b: u32, c: u32, d: u32) -> Wrote
-    ensures wrote { λ r. ⌜ r ≡ wroteOf 4 ((a ∷ b ∷ c ∷ d ∷ []) ∷ []) (length (now (room .entry))) ⌝ }
-    ensures left { λ r. ⌜ now (room .exit) ≡ laid 4 ((a ∷ b ∷ c ∷ d ∷ []) ∷ []) (now (room .entry)) ⌝ }
-{
-    if put4(room, a, b, c, d) {
-        Wrote { words: 4, count: 1 }
-    } else {
-        Wrote { words: 0, count: 1 }
-    }
 }
 
 // Writes a record, of as many words as it has, at the front of `room` if it fits, else leaves the room: a writer of one record.

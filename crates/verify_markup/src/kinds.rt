@@ -20,4 +20,4 @@ pub(crate) const UNCLOSED_MATH_MARKUP: u32 = 9;
 pub(crate) const UNCLOSED_HTML: u32 = 10;
 
 // How many words a diagnostic's record has.
-pub(crate) const DIAG_WIDTH: usize = 4;
+pub const DIAG_WIDTH: usize = 4;

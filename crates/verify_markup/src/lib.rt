@@ -8,6 +8,7 @@ mod texts;
 
 use basics::Place;
 use driver::check;
+pub use kinds::DIAG_WIDTH;
 use records::Filled;
 ghost use mathlib.Core.Path.{_≡_};
 ghost use lib.ListN.{length};

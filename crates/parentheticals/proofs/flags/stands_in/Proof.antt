@@ -5,7 +5,7 @@ use mathlib.Core.Path.{_≡_, refl, sym, ap, _∙_}
 use Prim.Native.Nat.{_-_}
 use mathlib.Core.List.{_∷_}
 use lib.ListN.{length}
-use Rattle.parentheticals.specs.Fields.{lparen}
+use Rattle.scans.specs.Marks.{lparen}
 use Rattle.parentheticals.specs.Inner.{placeOf}
 use Rattle.parentheticals.specs.Matching.{standsIn}
 use Rattle.parentheticals.proofs.Candidates.{stands-none, stands-miss, stands-hit}

@@ -13,7 +13,8 @@ use lib.ListN.{length, getD}
 use borrow.Author.Tests.{leb-true}
 use Rattle.basics.proofs.Laws.{both}
 use Rattle.byte_rules.specs.Reading.{barsNothing}
-use Rattle.parentheticals.specs.Fields.{lparen, authorEnd}
+use Rattle.scans.specs.Marks.{lparen}
+use Rattle.parentheticals.specs.Fields.{authorEnd}
 use Rattle.parentheticals.specs.Matching.{headAt, noticeAt, restAt, nextFrom}
 use Rattle.parentheticals.specs.Inner.{headOf, tailOf}
 use Rattle.parentheticals.proofs.Inside.{Begins}
