@@ -5,14 +5,14 @@ use crate::output::Told;
 use crate::output::answered;
 use crate::output::emit_record;
 use crate::output::told_line;
+use basics::Span;
 use parentheticals::Discouragements;
 use parentheticals::Flagged;
 use parentheticals::Found;
+use parentheticals::NextParenthetical;
 use parentheticals::Parenthetical;
 use parentheticals::ParentheticalState;
-use parentheticals::Span;
 use parentheticals::Started;
-use parentheticals::Step;
 use programs::Output;
 use programs::refusal_number;
 
@@ -30,17 +30,17 @@ fn count_steps(from: ParentheticalState, buf: &[u8], most: u32) -> Counted {
         let stepped = state.next(buf);
         let step = stepped.step;
         match step {
-            Step::Next(_) => {
+            NextParenthetical::Next(_) => {
                 state = stepped.state;
                 count += 1;
             }
-            Step::End => {
+            NextParenthetical::End => {
                 return Counted {
                     count,
                     is_end: true,
                 };
             }
-            Step::Refused(_) => {
+            NextParenthetical::Refused(_) => {
                 return Counted {
                     count,
                     is_end: false,
@@ -128,7 +128,7 @@ fn emit_credits(
     while i < count {
         let stepped = state.next(buf);
         let step = stepped.step;
-        let Step::Next(found) = step else {
+        let NextParenthetical::Next(found) = step else {
             return to;
         };
         to = emit_found(to, out, found);
