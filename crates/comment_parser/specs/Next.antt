@@ -21,10 +21,14 @@ pub record Outcome : Type 0 where
   pub event : Option CommentItem
   pub state : ParserState
 
+-- a refusal gives no event, and leaves the state as given
+abbrev pub refusedAs : ParserState → Answer → Outcome
+refusedAs st a = record { answer = a; event = none; state = st }
+
 abbrev pub stepAnswer : Next → Outcome
 stepAnswer (Event t i) = record { answer = bare 0; event = some i; state = t }
 stepAnswer (End t) = record { answer = bare 0; event = none; state = t }
-stepAnswer (Refused t r) = record { answer = refusalAnswer r; event = none; state = t }
+stepAnswer (Refused t r) = refusedAs t (refusalAnswer r)
 
 -- gives what waits, or ends
 unfoldable pub give : ParserState → Next
@@ -41,9 +45,6 @@ readOn rd s st =
 unfoldable pub answered : Reading → List ℕ → ParserState → Next
 answered rd buf st = elim (st .waiting) [ Item i ↦ give st | Nothing ↦ readOn rd (take (st .end) buf) st ]
 
--- a refusal gives no event, and leaves the state as given
-abbrev pub refusedAs : ParserState → Answer → Outcome
-refusedAs st a = record { answer = a; event = none; state = st }
-
+-- a state that is refused is not read
 unfoldable pub nextOf : Reading → List ℕ → ParserState → Outcome
 nextOf rd buf st = unless (stateRefusal (length buf) (st .pos) (st .end)) (refusedAs st) (stepAnswer (answered rd buf st))

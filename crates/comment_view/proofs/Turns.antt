@@ -6,12 +6,13 @@ use mathlib.Core.Bool.{Bool, true, false}
 use mathlib.Core.List.{List, [], _∷_, _++_, map}
 use mathlib.Core.Option.{Option, none, some}
 use native.Mathlib.Omega.{arith}
+use lib.Dec.{leb}
 use lib.ListN.{length, take, length-drop}
 use Rattle.basics.proofs.Laws.{differ}
 use Rattle.byte_rules.specs.Reading.{rust}
 use Rattle.records.specs.Records.{laid, used, wroteOf}
 use Rattle.records.specs.declared.Wrote.{Wrote}
-use Rattle.records.proofs.Laws.{Wide, laid-long}
+use Rattle.records.proofs.Laws.{Wide, laid-long, used-one, used-none}
 use Rattle.records.proofs.Laying.{Laying, tail, back, tail-is, back-is, laying-starts, laying-goes, all-counted, all-laid}
 use Rattle.comment_parser.specs.State.{fresh}
 use Rattle.comment_parser.specs.Item.{placedOf}
@@ -29,6 +30,14 @@ use Rattle.comment_view.specs.declared.NextItem.the-variants.{Event, End
 use Rattle.comment_view.specs.declared.listed.Listing.{Listing}
 use Rattle.comment_parser.proofs.Reached.{Reached, seen-lies, fresh-reached}
 
+-- a record takes no more words than it has
+one-used : (ws : List ℕ) (room : ℕ) → used eventWidth (ws ∷ []) room ≤ eventWidth
+one-used ws room = go (leb eventWidth room) refl
+  where
+    go : (b : Bool) → leb eventWidth room ≡ b → used eventWidth (ws ∷ []) room ≤ eventWidth
+    go true e = omega (arith, used-one eventWidth ws room e)
+    go false e = omega (arith, used-none eventWidth ws room e)
+
 -- an event's record laid in the tail, by what its writer answered
 module _ (done : Listing) (p : Placed) (out : List ℕ) (w : Wrote) (wrote : w ≡ wroteOf eventWidth (placedWords p ∷ []) (length (tail (done .words) out))) where
   -- the words written stay words of the room
@@ -36,6 +45,10 @@ module _ (done : Listing) (p : Placed) (out : List ℕ) (w : Wrote) (wrote : w �
   stays-inside h =
       let u = laid-long eventWidth (placedWords p ∷ []) (tail (done .words) out) (refl, tt) .1 in
       omega (arith, ap (λ (x : Wrote). x .words) wrote, u, ap length (tail-is (done .words) out), length-drop (done .words) out)
+
+  -- and are few
+  pub few-words : w .words ≤ eventWidth
+  few-words = omega (arith, ap (λ (x : Wrote). x .words) wrote, one-used (placedWords p) (length (tail (done .words) out)))
 
   pub lays-one : (s : NextItem) (i : CommentItem) (last : List ℕ) → s ≡ Event i → p ≡ placedOf i → last ≡ laid eventWidth (placedWords p ∷ []) (tail (done .words) out) → Lays done s out (record { going = true; words = done .words + w .words; count = done .count + w .count }) (back (done .words) out last)
   lays-one s i last e is h =

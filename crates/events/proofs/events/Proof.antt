@@ -8,7 +8,7 @@ use mathlib.Core.Option.{Option, none}
 use lib.ListN.{length}
 use native.Mathlib.Omega.{arith}
 use borrow.Author.Needs.{needs}
-use Rattle.records.specs.Answer.{Answer, refusalAnswer, checkedAnswer, spanRefusal}
+use Rattle.records.specs.Answer.{Answer, checkedAnswer, spanRefusal}
 use Rattle.records.proofs.Answers.{span-accepted}
 use Rattle.records.proofs.Laying.{Laying, back, given-refused, given-done, given-short}
 use Rattle.comment_parser.specs.Events.{left}
@@ -36,8 +36,9 @@ refusal s = spanRefusal (length (s .args .buf .now)) (s .args .start) (s .args .
 
 returns : tie.Need-returns Inv-loop μ-loop
 returns c =
-    let why = c .before .why .given in
-    given-refused (refusalAnswer (why .0 .0)) _ eventWidth _ _ (ap checkedAnswer (sym (why .1)) ∙ c .before .before .before .check-span .ensures)
+    let why = ap checkedAnswer (sym (c .before .why .given .1)) ∙ c .before .before .before .check-span .ensures in
+    let room = c .before .before .before .before .before .before .args .out .now in
+    (given-refused _ _ eventWidth _ room why .0, given-refused _ _ eventWidth _ room why .1)
 
 good : (c : tie.After-enum-told Inv-loop μ-loop) → none ≡ refusal (c .before .before .before .before .before)
 good c = ap checkedAnswer (sym (c .enum-told .given .1)) ∙ c .before .before .check-span .ensures

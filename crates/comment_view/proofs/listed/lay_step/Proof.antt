@@ -15,12 +15,13 @@ use Rattle.records.specs.Answer.{longest}
 use Rattle.records.specs.Records.{laid, used}
 use Rattle.records.specs.declared.Wrote.{Wrote}
 use Rattle.comment_parser.specs.Bounds.{Within}
+use Rattle.events.specs.Events.{eventWidth}
 use Rattle.comment_view.specs.Listed.{Ready, ReadyFor, Lays}
 use Rattle.comment_view.specs.declared.NextItem.{NextItem}
 use Rattle.comment_view.specs.declared.NextItem.the-variants.{Event, End, Refused}
 use Rattle.comment_view.specs.declared.listed.Listing.{Listing}
 use Rattle.comment_view.proofs.NextItem as S
-use Rattle.comment_view.proofs.Turns.{stays-inside, lays-one}
+use Rattle.comment_view.proofs.Turns.{stays-inside, few-words, lays-one}
 use Rattle.comment_view.proofs.listed.lay_step.Statement.{statement}
 use Rattle.comment_view.proofs.listed.lay_step.Tie as tie
 
@@ -82,13 +83,16 @@ slice-aggregate-lay c = search needs
 lay-requires : tie.Need-lay-requires
 lay-requires c κs = search needs
 
--- behind the record: the place behind `placed`, and that the words written stay words of the room
+-- behind the record: the place behind `placed`, and that the words written stay words of the room, and are few
 module _ (c : tie.After-lay) where
   abbrev at-placed : tie.After-placed
   at-placed = c .before .before .before .before .before .before
 
   inside : entry at-placed .args .done .words + c .lay .result .words ≤ length (now (entry at-placed .args .out))
   inside = stays-inside (entry at-placed .args .done) _ (now (entry at-placed .args .out)) _ (c .lay .ensures .0) (ready at-placed .inside)
+
+  few : c .lay .result .words ≤ eventWidth
+  few = few-words (entry at-placed .args .done) _ (now (entry at-placed .args .out)) _ (c .lay .ensures .0)
 
 add-t8 : tie.Need-add-t8
 add-t8 c =
@@ -98,7 +102,7 @@ add-t8 c =
 add-t10 : tie.Need-add-t10
 add-t10 c =
     let laid = c .before .before .before .before .before in
-    record { fits = omega (arith, ap (λ (w : Wrote). w .count) (laid .lay .ensures .0), inside laid, entry (at-placed laid) .good .1 .1 .0 .0, ready (at-placed laid) .few) }
+    record { fits = omega (arith, ap (λ (w : Wrote). w .count) (laid .lay .ensures .0), few laid, ready (at-placed laid) .few) }
 
 same-length : tie.Need-same-length
 same-length c = search needs
