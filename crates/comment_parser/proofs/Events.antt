@@ -11,13 +11,14 @@ use Rattle.records.specs.Produced.{grow}
 use Rattle.records.proofs.Answers.{state-accepted, state-good}
 use Rattle.records.proofs.ProducedLaws.{produced-step}
 use Rattle.byte_rules.specs.Reading.{Reading}
+use Rattle.comment_parser.specs.State.{Accepted}
 use Rattle.comment_parser.specs.Next.{stepAnswer, answered, nextOf}
 use Rattle.comment_parser.specs.Events.{left, paired, seen, eventsFrom}
 use Rattle.comment_parser.specs.declared.ParserState.{ParserState}
 use Rattle.comment_parser.specs.declared.CommentItem.{CommentItem}
 use Rattle.comment_parser.specs.declared.Next.{Next}
 use Rattle.comment_parser.specs.declared.Next.the-variants.{Event, End, Refused}
-use Rattle.comment_parser.proofs.Turns.{Accepted, GoesOn, answered-on}
+use Rattle.comment_parser.proofs.Turns.{GoesOn, answered-on}
 
 module _ (rd : Reading) (buf : List ℕ) (st : ParserState) where
   next-is : Accepted buf st → nextOf rd buf st ≡ stepAnswer (answered rd buf st)

@@ -14,6 +14,7 @@ use Rattle.scans.specs.Plain.{activeAt, plainStep, plainEnd}
 use Rattle.scans.specs.Scan.{scan}
 use Rattle.scans.specs.declared.Step.the-variants.{One as StepOne}
 use Rattle.scans.proofs.Laws.{by-less, scan-over, scan-le, scan-end}
+use Rattle.scans.proofs.EndLaws.{blanks-stopped}
 use Rattle.scans.proofs.PlainLaws.{active-free, plain-passed}
 use Rattle.comment_parser.specs.State.{moved}
 use Rattle.comment_parser.specs.Rules.{afterLf, plainRule, textRule, firstRule, stepTo, passAct}
@@ -22,7 +23,7 @@ use Rattle.comment_parser.specs.Notes.{Skipped}
 use Rattle.comment_parser.specs.declared.ParserState.{ParserState}
 use Rattle.comment_parser.specs.declared.Waiting.the-variants.{Nothing}
 use Rattle.comment_parser.specs.declared.Act.{Act}
-use Rattle.comment_parser.specs.declared.Act.the-variants.{One, Ends, NoMore}
+use Rattle.comment_parser.specs.declared.Act.the-variants.{One, Ends}
 
 -- looking back for an LF: nothing before the run's start, and one byte further
 pub lf-none : (s : List ℕ) (from : ℕ) → afterLf s (from - from) from ≡ false
@@ -55,18 +56,10 @@ module _ (rd : Reading) (s : List ℕ) (st : ParserState) (from p : ℕ) where
     unfolding endedAt
     ends-here q t r = rw (endedAt, lt-ltb p (length s) h, r)
 
-    no-more-here : passAct rd s st from p ≡ NoMore → endedAt rd s st from p ≡ runTo from (moved st p Nothing)
-    unfolding endedAt
-    no-more-here r = rw (endedAt, lt-ltb p (length s) h, r)
-
     module _ (comes : scan (passStep rd s st from) (length s) from ≡ p) where
       pub ended : (q : ℕ) (t : ParserState) → Ends q t ≡ passAct rd s st from p → pass rd s st from ≡ runTo q t
       unfolding pass
       ended q t r = rw (pass, comes) (ends-here q t (sym r))
-
-      pub no-more : NoMore ≡ passAct rd s st from p → pass rd s st from ≡ runTo from (moved st p Nothing)
-      unfolding pass
-      no-more r = rw (pass, comes) (no-more-here (sym r))
 
 module _ (rd : Reading) (s : List ℕ) (st : ParserState) (from : ℕ) where
   pub ran-out : scan (passStep rd s st from) (length s) from ≡ length s → pass rd s st from ≡ runTo (length s) (moved st (length s) Nothing)
@@ -80,6 +73,11 @@ start-le false x y e p q = q
 pub run-start-le : (s : List ℕ) (st : ParserState) → st .pos ≤ length s → runStart s st ≤ length s
 unfolding runStart
 run-start-le s st h = start-le (st .math) _ _ _ (scan-le _ _ _) h
+
+-- in math blanks are skipped before the run, so it starts where none stands
+pub run-start-clean : (s : List ℕ) (st : ParserState) → st .math ≡ true → blankAt s (runStart s st) ≡ false
+unfolding runStart
+run-start-clean s st m = rw (runStart, m) (blanks-stopped s (st .pos))
 
 -- a plain byte is stepped over
 

@@ -14,29 +14,27 @@ use Rattle.comment_parser.specs.State.{moved}
 use Rattle.comment_parser.specs.Rules.{firstRule, stepTo, passAct}
 use Rattle.comment_parser.specs.Pass.{stepOf, runTo, atEnd, passStep, endedAt, pass}
 use Rattle.comment_parser.specs.declared.Act.{Act}
-use Rattle.comment_parser.specs.declared.Act.the-variants.{One, Two, Ends, NoMore}
+use Rattle.comment_parser.specs.declared.Act.the-variants.{One, Two, Ends}
 use Rattle.comment_parser.specs.declared.CommentItem.the-variants.{EndSubscript}
 use Rattle.comment_parser.specs.declared.ParserState.{ParserState}
 use Rattle.comment_parser.specs.declared.Run.{Run}
-use Rattle.comment_parser.specs.declared.Waiting.the-variants.{Item, Nothing}
+use Rattle.comment_parser.specs.declared.Waiting.the-variants.{Item}
 
--- what a rule at p may say in a run from `from`: Q holds where it steps to, or R of the run that it ends
-abbrev pub Good : ParserState → ℕ → (ℕ → Type 0) → (Run → Type 0) → ℕ → Act → Type 0
-Good st from Q R p One = Q (p + 1)
-Good st from Q R p Two = Q (p + 2)
-Good st from Q R p (Ends q t) = R (runTo q t)
-Good st from Q R p NoMore = R (runTo from (moved st p Nothing))
+-- what a rule at p may say: Q holds where it steps to, or R of the run that it ends
+abbrev pub Good : (ℕ → Type 0) → (Run → Type 0) → ℕ → Act → Type 0
+Good Q R p One = Q (p + 1)
+Good Q R p Two = Q (p + 2)
+Good Q R p (Ends q t) = R (runTo q t)
 
 module _ (rd : Reading) (s : List ℕ) (st : ParserState) (from : ℕ) (Q : ℕ → Type 0) (R : Run → Type 0) where
   abbrev Ended : ℕ → Type 0
   Ended p = R (endedAt rd s st from p)
 
-  leads : (p : ℕ) (a : Act) → p < length s → passAct rd s st from p ≡ a → Good st from Q R p a → Leads Ended Q p (stepOf a)
+  leads : (p : ℕ) (a : Act) → p < length s → passAct rd s st from p ≡ a → Good Q R p a → Leads Ended Q p (stepOf a)
   unfolding endedAt
   leads p One l e g = by-one g
   leads p Two l e g = by-two g
   leads p (Ends q t) l e g = stops (rw (endedAt, lt-ltb p (length s) l, e) g)
-  leads p NoMore l e g = stops (rw (endedAt, lt-ltb p (length s) l, e) g)
 
   at-end : R (atEnd s st) → Ended (length s)
   unfolding endedAt
@@ -44,7 +42,7 @@ module _ (rd : Reading) (s : List ℕ) (st : ParserState) (from : ℕ) (Q : ℕ 
 
   -- a pass: each rule on its way is good, and so is the end of the text
   pub pass-by :
-      ((p : ℕ) → Q p → p < length s → Good st from Q R p (passAct rd s st from p)) → ((p : ℕ) → Q p → length s ≤ p → R (atEnd s st)) →
+      ((p : ℕ) → Q p → p < length s → Good Q R p (passAct rd s st from p)) → ((p : ℕ) → Q p → length s ≤ p → R (atEnd s st)) →
       Q from → R (pass rd s st from)
   unfolding pass passStep
   pass-by good end q =
@@ -60,11 +58,10 @@ module _ (st : ParserState) (p : ℕ) (P : Act → Type 0) where
   unfolding stepTo
   step-to q a n x = by-test P (eqb q (st .«end_subscript»)) (λ e. n (eqb-true q (st .«end_subscript») e)) (λ _. x)
 
-  stepped : (P One → Noted (p + 1)) → (P Two → Noted (p + 2)) → (a : Act) → P a → P (elim a [ One ↦ stepTo st (p + 1) One | Two ↦ stepTo st (p + 2) Two | Ends q t ↦ Ends q t | NoMore ↦ NoMore ])
+  stepped : (P One → Noted (p + 1)) → (P Two → Noted (p + 2)) → (a : Act) → P a → P (elim a [ One ↦ stepTo st (p + 1) One | Two ↦ stepTo st (p + 2) Two | Ends q t ↦ Ends q t ])
   stepped f g One x = step-to (p + 1) One (f x) x
   stepped f g Two x = step-to (p + 2) Two (g x) x
   stepped f g (Ends q t) x = x
-  stepped f g NoMore x = x
 
   pub act-by : (rd : Reading) (s : List ℕ) (from : ℕ) → (P One → Noted (p + 1)) → (P Two → Noted (p + 2)) → P (firstRule rd s st from p) → P (passAct rd s st from p)
   unfolding passAct

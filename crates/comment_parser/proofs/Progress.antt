@@ -1,31 +1,30 @@
--- What a pass leaves, in any reading, shown rule by rule: the run ends where it began or later, the state after it stands in the text behind the run, and
--- what waits lies between them.
+-- What a pass leaves, in any reading, shown rule by rule: the run ends where it began or later, the state after it stands in the text behind the run, what
+-- waits lies between them, and where nothing waits the run is not empty or the text has ended.
 -- Assumes nothing.
 use Prim.Native.Nat.{ℕ, zero, suc, _+_, _-_, _≤_, _<_}
 use mathlib.Core.Bool.{Bool, true, false, _&&_}
 use mathlib.Core.Path.{_≡_, refl}
-use mathlib.Core.Logic.{_⊎_, inl, inr}
+use mathlib.Core.Logic.{_⊎_, inl, inr, ⊎-elim}
 use mathlib.Core.List.{List}
 use borrow.Author.Tests.{leb-true}
 use native.Mathlib.Nat.{le-refl}
 use native.Mathlib.Omega.{arith}
 use lib.ListN.{length, take, drop}
-use lib.Dec.{ltb, leb, eqb}
+use lib.Dec.{leb, eqb}
 use Rattle.basics.proofs.Laws.{differ, by-test, by-place}
 use Rattle.look.specs.Look.{byteAt, blankAt, doubledAt, wordAt}
 use Rattle.look.proofs.Laws.{byte-within, doubled-within, word-within}
 use Rattle.byte_rules.specs.Reading.{Reading}
 use Rattle.scans.specs.Marks.{tick, tilde, lbracket, under, less, lf, space, openHtml, closeHtml}
 use Rattle.scans.specs.Ends.{blanksStep, blanksEnd, tagEnd, labelStep, labelEnd, subscriptEnd, italicEnd, isUrl}
-use Rattle.scans.proofs.Laws.{scan-le, scan-ge}
+use Rattle.scans.proofs.Laws.{scan-le, scan-ge, by-less, clash}
 use Rattle.scans.proofs.TagLaws.{tag-in}
 use Rattle.comment_parser.proofs.Passes.{Good, Noted, pass-by, act-by}
 use Rattle.comment_parser.specs.Item.{placedOf}
 use Rattle.comment_parser.specs.Bounds.{Within}
-use Rattle.comment_parser.specs.State.{moved}
 use Rattle.comment_parser.specs.Rules.{opensAhead, afterLf, beforeOpen, afterClose, labelItem, tickRule, tildeRule, mathRule, htmlRule, bracketRule, newlineRule}
 use Rattle.comment_parser.specs.Rules.{opensItalic, openUnder, underRule, plainRule, textRule, firstRule, passAct}
-use Rattle.comment_parser.specs.Pass.{runTo, pass}
+use Rattle.comment_parser.specs.Pass.{pass}
 use Rattle.comment_parser.specs.declared.ParserState.{ParserState}
 use Rattle.comment_parser.specs.declared.CommentItem.{CommentItem}
 use Rattle.comment_parser.specs.declared.Waiting.{Waiting}
@@ -39,13 +38,14 @@ abbrev pub Waits : ℕ → ℕ → Waiting → Type 0
 Waits low high Nothing = Unit
 Waits low high (Item i) = Within low high (placedOf i)
 
--- the state after a run that began at `from` and ended at q
+-- the state after a run that began at `from` and ended at q: with an event waiting it has moved on; with none the run is not empty, or has come to the end
 pub record After (s : List ℕ) (st : ParserState) (from q : ℕ) (t : ParserState) : Type 0 where
   pub same-end : t .end ≡ st .end
   pub starts : from ≤ q
   pub past-run : q ≤ t .pos
   pub within : t .pos ≤ length s
   pub on : (from < t .pos) ⊎ (t .waiting ≡ Nothing)
+  pub full : t .waiting ≡ Nothing → (from < q) ⊎ (q ≡ length s)
   pub waits : Waits q (t .pos) (t .waiting)
 
 module _ (s : List ℕ) (st : ParserState) (from : ℕ) where
@@ -85,22 +85,28 @@ unfolding afterLf
 lf-past s zero i h = absurd (differ cc)
 lf-past s (suc n) i h = omega arith
 
+past-start : (s : List ℕ) (from p : ℕ) → from ≤ p → blankAt s from ≡ false → blankAt s p ≡ true → from < p
+past-start s from p h n t = by-less from p (λ l. l) (λ l. let z : p ≡ from = omega arith in clash n (rw z at t))
+
 module _ (s : List ℕ) (st : ParserState) (from p : ℕ) (h : from ≤ p) (i : p < length s) where
   -- what a rule at p may say
   abbrev Sound : Act → Type 0
-  Sound a = Good st from (Comes s st from) (Ended s st from) p a
+  Sound a = Good (Comes s st from) (Ended s st from) p a
 
-  -- the run ends at q, and the next starts at x, past p
-  ends-at : (q x : ℕ) (t : ParserState) → t .end ≡ st .end → t .pos ≡ x → from ≤ q → q ≤ p → p < x → x ≤ length s → Waits q (t .pos) (t .waiting) → Sound (Ends q t)
-  ends-at q x t e f a b c d w = record { same-end = e; starts = a; past-run = omega arith; within = omega arith; on = inl (omega arith); waits = w }
+  -- the run ends at q with an event, and the next starts at x, past p
+  ends-at :
+      (q x : ℕ) (t : ParserState) {c : CommentItem} → t .end ≡ st .end → t .pos ≡ x → t .waiting ≡ Item c → from ≤ q → q ≤ p → p < x → x ≤ length s →
+      Waits q (t .pos) (t .waiting) → Sound (Ends q t)
+  ends-at q x t e f g a b c d w =
+      record { same-end = e; starts = a; past-run = omega arith; within = omega arith; on = inl (omega arith); full = λ n. absurd (differ cc); waits = w }
 
   tick-sound : Sound (tickRule s st from p)
   unfolding tickRule
   tick-sound =
       by-test Sound (doubledAt s p tick) (λ t. omega (arith, doubled-within s p tick t)) (λ _.
       by-test Sound (st .math)
-      (λ _. let c = after-close-in s (p + 1) (omega arith) in ends-at p (afterClose s (p + 1)) _ refl refl h (le-refl p) (omega arith) (omega arith) (omega arith))
-      (λ _. let o = before-open-in s from p h in ends-at (beforeOpen s from p) (p + 1) _ refl refl (o .0) (o .1) (omega arith) (omega arith) (omega arith)))
+      (λ _. let c = after-close-in s (p + 1) (omega arith) in ends-at p (afterClose s (p + 1)) _ refl refl refl h (le-refl p) (omega arith) (omega arith) (omega arith))
+      (λ _. let o = before-open-in s from p h in ends-at (beforeOpen s from p) (p + 1) _ refl refl refl (o .0) (o .1) (omega arith) (omega arith) (omega arith)))
 
   tilde-sound : Sound (tildeRule s st from p)
   unfolding tildeRule
@@ -112,18 +118,15 @@ module _ (s : List ℕ) (st : ParserState) (from p : ℕ) (h : from ≤ p) (i : 
       let l = scan-ge (labelStep s) (length s) x x (le-refl x) (scan-le (blanksStep s) (length s) (p + 1)) in
       let c = after-close-in s y (scan-le (labelStep s) (length s) x) in
       let o = before-open-in s from p h in
-      ends-at (beforeOpen s from p) (afterClose s y) _ refl refl (o .0) (o .1) (omega arith) (c .1)
+      ends-at (beforeOpen s from p) (afterClose s y) _ refl refl refl (o .0) (o .1) (omega arith) (c .1)
       (label-within s (beforeOpen s from p) (afterClose s y) p x y (o .1) (omega arith) l (c .0)))
 
-  -- in math the run ends at q with nothing waiting
-  idle-at : (q : ℕ) → from ≤ q → q ≤ p → Ended s st from (runTo q (moved st p Nothing))
-  idle-at q l u = record { same-end = refl; starts = l; past-run = u; within = omega arith; on = inr refl; waits = tt }
-
-  math-sound : Sound (mathRule s st from p)
+  -- a token that begins with no blank is not empty where a blank ends it
+  math-sound : blankAt s from ≡ false → Sound (mathRule s st p)
   unfolding mathRule
-  math-sound =
+  math-sound n =
       by-test Sound (blankAt s p)
-      (λ _. by-test Sound (ltb from p) (λ _. idle-at p h (le-refl p)) (λ _. idle-at from (le-refl from) h))
+      (λ t. record { same-end = refl; starts = h; past-run = le-refl p; within = omega arith; on = inr refl; full = λ _. inl (past-start s from p h n t); waits = tt })
       (λ _. omega arith)
 
   html-sound : Sound (htmlRule s st p)
@@ -132,11 +135,11 @@ module _ (s : List ℕ) (st : ParserState) (from p : ℕ) (h : from ≤ p) (i : 
       by-test Sound (st .html)
       (λ _.
       by-test Sound (wordAt s p closeHtml)
-      (λ t. let w = word-within s closeHtml p (omega arith) t in ends-at p (p + 7) _ refl refl h (le-refl p) (omega arith) w (omega arith))
+      (λ t. let w = word-within s closeHtml p (omega arith) t in ends-at p (p + 7) _ refl refl refl h (le-refl p) (omega arith) w (omega arith))
       (λ _. omega arith))
       (λ _.
       by-test Sound (wordAt s p openHtml)
-      (λ t. let w = word-within s openHtml p (omega arith) t in ends-at p (p + 6) _ refl refl h (le-refl p) (omega arith) w (omega arith))
+      (λ t. let w = word-within s openHtml p (omega arith) t in ends-at p (p + 6) _ refl refl refl h (le-refl p) (omega arith) w (omega arith))
       (λ _. omega arith))
 
   bracket-sound : Sound (bracketRule s st p)
@@ -144,29 +147,29 @@ module _ (s : List ℕ) (st : ParserState) (from p : ℕ) (h : from ≤ p) (i : 
   bracket-sound =
       by-test Sound (doubledAt s p lbracket) (λ t. omega (arith, doubled-within s p lbracket t)) (λ _.
       by-place Sound (tagEnd s (p + 1))
-      (λ q t. let w = tag-in s (p + 1) q (omega arith) t in ends-at p (q + 1) _ refl refl h (le-refl p) (omega arith) (omega arith) (omega arith))
+      (λ q t. let w = tag-in s (p + 1) q (omega arith) t in ends-at p (q + 1) _ refl refl refl h (le-refl p) (omega arith) (omega arith) (omega arith))
       (λ _. omega arith))
 
   newline-sound : Sound (newlineRule s st from p)
   unfolding newlineRule
   newline-sound =
       by-test Sound (afterLf s (p - from) p)
-      (λ t. let k = lf-past s (p - from) p t in record { same-end = refl; starts = h; past-run = omega arith; within = omega arith; on = inl (omega arith); waits = omega arith })
+      (λ t. let k = lf-past s (p - from) p t in record { same-end = refl; starts = h; past-run = omega arith; within = omega arith; on = inl (omega arith); full = λ n. absurd (differ cc); waits = omega arith })
       (λ _. omega arith)
 
   -- a step that comes to the noted subscript end
   noted-sound : (q : ℕ) → p < q → q ≤ length s → Noted st p Sound q
-  noted-sound q j k _ = record { same-end = refl; starts = omega arith; past-run = le-refl q; within = k; on = inl (omega arith); waits = omega arith }
+  noted-sound q j k _ = record { same-end = refl; starts = omega arith; past-run = le-refl q; within = k; on = inl (omega arith); full = λ n. absurd (differ cc); waits = omega arith }
 
   module _ (rd : Reading) where
     under-sound : Sound (underRule rd s st p)
     unfolding underRule openUnder
     under-sound =
         by-test Sound (doubledAt s p under) (λ t. omega (arith, doubled-within s p under t)) (λ _.
-        by-test Sound (eqb p (st .«end_italic»)) (λ _. ends-at p (p + 1) _ refl refl h (le-refl p) (omega arith) (omega arith) (omega arith)) (λ _.
+        by-test Sound (eqb p (st .«end_italic»)) (λ _. ends-at p (p + 1) _ refl refl refl h (le-refl p) (omega arith) (omega arith) (omega arith)) (λ _.
         by-test Sound (opensItalic s st p)
-        (λ _. by-place Sound (italicEnd rd s (p + 1)) (λ q t. ends-at p (p + 1) _ refl refl h (le-refl p) (omega arith) (omega arith) (omega arith)) (λ _. omega arith))
-        (λ _. by-place Sound (subscriptEnd rd s (p + 1)) (λ q t. ends-at p (p + 1) _ refl refl h (le-refl p) (omega arith) (omega arith) (omega arith)) (λ _. omega arith))))
+        (λ _. by-place Sound (italicEnd rd s (p + 1)) (λ q t. ends-at p (p + 1) _ refl refl refl h (le-refl p) (omega arith) (omega arith) (omega arith)) (λ _. omega arith))
+        (λ _. by-place Sound (subscriptEnd rd s (p + 1)) (λ q t. ends-at p (p + 1) _ refl refl refl h (le-refl p) (omega arith) (omega arith) (omega arith)) (λ _. omega arith))))
 
     plain-sound : Sound (plainRule rd s st from p)
     unfolding plainRule
@@ -182,18 +185,24 @@ module _ (s : List ℕ) (st : ParserState) (from p : ℕ) (h : from ≤ p) (i : 
         by-test Sound (byteAt s p lbracket) (λ _. bracket-sound) (λ _.
         by-test Sound (st .html) (λ _. omega arith) (λ _. plain-sound))))
 
-    first-sound : Sound (firstRule rd s st from p)
+    first-sound : (st .math ≡ true → blankAt s from ≡ false) → Sound (firstRule rd s st from p)
     unfolding firstRule
-    first-sound =
+    first-sound n =
         by-test Sound (byteAt s p tick) (λ _. tick-sound) (λ _.
-        by-test Sound (st .math) (λ _. math-sound) (λ _. text-sound))
+        by-test Sound (st .math) (λ m. math-sound (n m)) (λ _. text-sound))
 
-    act-sound : Sound (passAct rd s st from p)
-    act-sound = act-by st p Sound rd s from (λ k. noted-sound (p + 1) (omega arith) (k .1)) (λ k. noted-sound (p + 2) (omega arith) (k .1)) first-sound
+    act-sound : (st .math ≡ true → blankAt s from ≡ false) → Sound (passAct rd s st from p)
+    act-sound n = act-by st p Sound rd s from (λ k. noted-sound (p + 1) (omega arith) (k .1)) (λ k. noted-sound (p + 2) (omega arith) (k .1)) (first-sound n)
 
--- a pass from within the text
-pub pass-after : (rd : Reading) (s : List ℕ) (st : ParserState) (from : ℕ) → from ≤ length s → After s st from (pass rd s st from .end) (pass rd s st from .after)
-pass-after rd s st from h =
-    pass-by rd s st from (Comes s st from) (Ended s st from) (λ p k l. act-sound s st from p (k .0) l rd)
-    (λ p k l. record { same-end = refl; starts = h; past-run = le-refl (length s); within = le-refl (length s); on = inr refl; waits = tt })
+    -- a rule that leaves nothing waiting ends a run that is not empty
+    pub act-full : (st .math ≡ true → blankAt s from ≡ false) → (q : ℕ) (t : ParserState) → passAct rd s st from p ≡ Ends q t → t .waiting ≡ Nothing → from < q
+    act-full n q t e w = let a : After s st from q t = rw e at (act-sound n) in ⊎-elim (λ (l : from < q). l) (λ (z : q ≡ length s). omega arith) (a .full w)
+
+-- a pass from within the text, in math from where no blank stands
+pub pass-after :
+    (rd : Reading) (s : List ℕ) (st : ParserState) (from : ℕ) → from ≤ length s → (st .math ≡ true → blankAt s from ≡ false) →
+    After s st from (pass rd s st from .end) (pass rd s st from .after)
+pass-after rd s st from h n =
+    pass-by rd s st from (Comes s st from) (Ended s st from) (λ p k l. act-sound s st from p (k .0) l rd n)
+    (λ p k l. record { same-end = refl; starts = h; past-run = le-refl (length s); within = le-refl (length s); on = inr refl; full = λ _. inr refl; waits = tt })
     (le-refl from, h)

@@ -10,7 +10,7 @@ use lib.ListN.{length, take}
 use Rattle.basics.proofs.Laws.{by-test}
 use Rattle.records.specs.Answer.{longest}
 use Rattle.byte_rules.specs.Reading.{Reading}
-use Rattle.comment_parser.specs.State.{fresh, moved}
+use Rattle.comment_parser.specs.State.{Accepted, fresh, moved}
 use Rattle.comment_parser.specs.Pass.{runStart, runItem}
 use Rattle.comment_parser.specs.Next.{give, readOn, answered}
 use Rattle.comment_parser.specs.Events.{left, eventsFrom, eventsOf}
@@ -19,7 +19,7 @@ use Rattle.comment_parser.specs.declared.Next.{Next}
 use Rattle.comment_parser.specs.declared.Next.the-variants.{Event, End}
 use Rattle.comment_parser.specs.declared.ParserState.{ParserState}
 use Rattle.comment_parser.specs.declared.Waiting.the-variants.{Item, Nothing}
-use Rattle.comment_parser.proofs.Turns.{Accepted, runRead, give-item, give-end, gives, reads-on}
+use Rattle.comment_parser.proofs.Turns.{runRead, give-item, give-end, gives, reads-on}
 use Rattle.comment_parser.proofs.Events.{seen-event, seen-end, seen-on, stays-accepted, events-on, events-end}
 
 -- a state that reads on up to b

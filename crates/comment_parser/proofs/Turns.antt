@@ -12,10 +12,9 @@ use lib.Dec.{ltb}
 use lib.ListN.{length, take}
 use lib.Seq.{length-take-le}
 use Rattle.basics.proofs.Laws.{differ, by-test}
-use Rattle.records.specs.Answer.{longest}
 use Rattle.byte_rules.specs.Reading.{Reading}
 use Rattle.scans.proofs.Laws.{scan-ge}
-use Rattle.comment_parser.specs.State.{moved}
+use Rattle.comment_parser.specs.State.{Accepted, moved}
 use Rattle.comment_parser.specs.Pass.{runStart, pass, runItem}
 use Rattle.comment_parser.specs.Next.{give, readOn, answered}
 use Rattle.comment_parser.specs.Events.{waits, left}
@@ -26,7 +25,7 @@ use Rattle.comment_parser.specs.declared.ParserState.{ParserState}
 use Rattle.comment_parser.specs.declared.Run.{Run}
 use Rattle.comment_parser.specs.declared.Waiting.{Waiting}
 use Rattle.comment_parser.specs.declared.Waiting.the-variants.{Item, Nothing}
-use Rattle.comment_parser.proofs.Laws.{run-start-le}
+use Rattle.comment_parser.proofs.Laws.{run-start-le, run-start-clean}
 use Rattle.comment_parser.proofs.Progress.{After, pass-after}
 
 -- ---- the answer to a state
@@ -92,11 +91,6 @@ turn rd buf st = go (st .waiting) refl
 
 -- ---- the answer to a state that `next` takes
 
-pub record Accepted (buf : List ℕ) (st : ParserState) : Type 0 where
-  pub short : length buf ≤ longest
-  pub inside : st .pos ≤ st .end
-  pub fits : st .end ≤ length buf
-
 -- where its run begins, and what its pass leaves, in the text up to its end
 pub record Passing (rd : Reading) (s : List ℕ) (st : ParserState) : Type 0 where
   pub long : length s ≡ st .end
@@ -112,7 +106,7 @@ passing rd buf st a =
     let s = take (st .end) buf in
     let z : length s ≡ st .end = length-take-le (st .end) buf (a .fits) in
     let h : st .pos ≤ length s = omega (arith, a .inside) in
-    record { long = z; onward = run-start-ge s st h; after = pass-after rd s st (runStart s st) (run-start-le s st h) }
+    record { long = z; onward = run-start-ge s st h; after = pass-after rd s st (runStart s st) (run-start-le s st h) (run-start-clean s st) }
 
 -- with an event waiting the reader stands further on than where its run began
 pub past-waiting : {s : List ℕ} {st t : ParserState} {from q : ℕ} {i : CommentItem} → After s st from q t → t .waiting ≡ Item i → from < t .pos

@@ -17,14 +17,13 @@ use Rattle.comment_parser.specs.declared.CommentItem.the-variants.{Text,
 use Rattle.comment_parser.specs.declared.Waiting.the-variants.{Nothing}
 use Rattle.comment_parser.specs.declared.ParserState.{ParserState}
 use Rattle.comment_parser.specs.declared.Act.{Act}
-use Rattle.comment_parser.specs.declared.Act.the-variants.{One, Two, Ends, NoMore}
+use Rattle.comment_parser.specs.declared.Act.the-variants.{One, Two, Ends}
 use Rattle.comment_parser.specs.declared.Run.{Run}
 
 abbrev pub stepOf : Act → Step
 stepOf One = StepOne
 stepOf Two = StepTwo
 stepOf (Ends q t) = Stop
-stepOf NoMore = Stop
 
 abbrev pub runTo : ℕ → ParserState → Run
 runTo q t = record { end = q; after = t }
@@ -41,11 +40,11 @@ module _ (rd : Reading) (s : List ℕ) (st : ParserState) where
   unfoldable pub passStep : ℕ → ℕ → Step
   passStep from p = stepOf (passAct rd s st from p)
 
-  -- what ends the run at p: a rule, or the end. Where there is no more, nothing was read and nothing waits
+  -- what ends the run at p: a rule, or the end
   unfoldable pub endedAt : ℕ → ℕ → Run
   endedAt from p =
       elim (ltb p (length s)) [
-        | true ↦ elim (passAct rd s st from p) [ Ends q t ↦ runTo q t | NoMore ↦ runTo from (moved st p Nothing) | One ↦ atEnd s st | Two ↦ atEnd s st ]
+        | true ↦ elim (passAct rd s st from p) [ Ends q t ↦ runTo q t | One ↦ atEnd s st | Two ↦ atEnd s st ]
         | false ↦ atEnd s st
       ]
 

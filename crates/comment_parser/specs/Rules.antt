@@ -3,7 +3,7 @@
 use Prim.Native.Nat.{ℕ, zero, suc, _+_, _-_}
 use mathlib.Core.Bool.{Bool, true, false, _&&_, _||_}
 use mathlib.Core.List.{List}
-use lib.Dec.{ltb, leb, eqb}
+use lib.Dec.{leb, eqb}
 use lib.ListN.{length, take, drop}
 use Rattle.byte_rules.specs.Reading.{Reading}
 use Rattle.look.specs.Look.{byteAt, blankAt, closerAt, italicOpenerAt, doubledAt, wordAt}
@@ -18,7 +18,7 @@ use Rattle.comment_parser.specs.declared.CommentItem.the-variants.{EndHt
 use Rattle.comment_parser.specs.declared.Waiting.the-variants.{Item, Nothing}
 use Rattle.comment_parser.specs.declared.ParserState.{ParserState}
 use Rattle.comment_parser.specs.declared.Act.{Act}
-use Rattle.comment_parser.specs.declared.Act.the-variants.{One, Two, Ends, NoMore}
+use Rattle.comment_parser.specs.declared.Act.the-variants.{One, Two, Ends}
 
 module _ (s : List ℕ) where
   -- the buffer's start, or a blank before q
@@ -60,10 +60,6 @@ module _ (s : List ℕ) (st : ParserState) where
           ]
         ]
 
-    -- in math: a nonblank steps one; a blank ends the token; for an empty token there is no more
-    unfoldable pub mathRule : Act
-    mathRule = elim (blankAt s p) [ true ↦ elim (ltb from p) [ true ↦ Ends p (moved st p Nothing) | false ↦ NoMore ] | false ↦ One ]
-
     -- `~`: doubled, step two; else skip blanks, then read the label
     unfoldable pub tildeRule : Act
     tildeRule =
@@ -80,6 +76,10 @@ module _ (s : List ℕ) (st : ParserState) where
     newlineRule = elim (afterLf s (p - from) p) [ true ↦ Ends p (moved st p (Item (LineBreak p))) | false ↦ One ]
 
   module _ (p : ℕ) where
+    -- in math: a nonblank steps one; a blank ends the token
+    unfoldable pub mathRule : Act
+    mathRule = elim (blankAt s p) [ true ↦ Ends p (moved st p Nothing) | false ↦ One ]
+
     -- `<HTML>` outside HTML, `</HTML>` inside it, ends the run
     unfoldable pub htmlRule : Act
     htmlRule =
@@ -151,9 +151,9 @@ module _ (rd : Reading) (s : List ℕ) (st : ParserState) where
     firstRule =
         elim (byteAt s p tick) [
           | true ↦ tickRule s st from p
-          | false ↦ elim (st .math) [ true ↦ mathRule s st from p | false ↦ textRule ]
+          | false ↦ elim (st .math) [ true ↦ mathRule s st p | false ↦ textRule ]
         ]
 
     -- after any step that did not end the run, also in math, the noted subscript end is looked for
     unfoldable pub passAct : Act
-    passAct = elim firstRule [ One ↦ stepTo st (p + 1) One | Two ↦ stepTo st (p + 2) Two | Ends q t ↦ Ends q t | NoMore ↦ NoMore ]
+    passAct = elim firstRule [ One ↦ stepTo st (p + 1) One | Two ↦ stepTo st (p + 2) Two | Ends q t ↦ Ends q t ]

@@ -1,6 +1,9 @@
--- A parser's state: a fresh one, and a state with one thing changed.
-use Prim.Native.Nat.{ℕ}
+-- A parser's state: a fresh one, one that `next` takes, and a state with one thing changed.
+use Prim.Native.Nat.{ℕ, _≤_}
 use mathlib.Core.Bool.{Bool, false}
+use mathlib.Core.List.{List}
+use lib.ListN.{length}
+use Rattle.records.specs.Answer.{longest}
 use Rattle.comment_parser.specs.declared.Waiting.{Waiting}
 use Rattle.comment_parser.specs.declared.Waiting.the-variants.{Nothing}
 use Rattle.comment_parser.specs.declared.ParserState.{ParserState}
@@ -12,6 +15,12 @@ noItalic = 18446744073709551615
 -- the state of a parser that has yet to read the places from a to b
 abbrev pub fresh : ℕ → ℕ → ParserState
 fresh a b = record { end = b; pos = a; math = false; html = false; waiting = Nothing; «end_italic» = noItalic; «end_subscript» = 0 }
+
+-- a state that `next` takes, also one that no parser made
+pub record Accepted (buf : List ℕ) (st : ParserState) : Type 0 where
+  pub short : length buf ≤ longest
+  pub inside : st .pos ≤ st .end
+  pub fits : st .end ≤ length buf
 
 module _ (st : ParserState) where
   -- at another place, with what waits

@@ -135,12 +135,11 @@ pub struct ParserState {
     pub end_subscript: usize,
 }
 
-// What a rule says: step one, step two, end the run at a place, with the state after it, or that there is no more.
+// What a rule says: step one, step two, or end the run at a place, with the state after it.
 pub enum Act {
     One,
     Two,
     Ends(usize, ParserState),
-    NoMore,
 }
 
 // What a rule says, and the note about tags as it stands then.

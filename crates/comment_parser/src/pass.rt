@@ -71,15 +71,6 @@ pub(crate) fn pass(text: &[u8], st: ParserState, from: usize, note: Note) -> Run
                     note: n,
                 };
             }
-            Act::NoMore => {
-                return RunNoted {
-                    run: Run {
-                        end: from,
-                        after: st.moved(p, Waiting::Nothing),
-                    },
-                    note: n,
-                };
-            }
         }
     }
 }

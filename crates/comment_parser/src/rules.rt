@@ -131,16 +131,12 @@ pub(crate) fn tilde_rule(text: &[u8], st: ParserState, from: usize, p: usize, no
     }
 }
 
-// In math a nonblank steps one, and a blank ends the token. For an empty token there is no more.
-pub(crate) fn math_rule(text: &[u8], st: ParserState, from: usize, p: usize) -> Act
-    ensures { λ r. ⌜ r ≡ mathRule (now (text .entry)) st from p ⌝ }
+// In math a nonblank steps one, and a blank ends the token.
+pub(crate) fn math_rule(text: &[u8], st: ParserState, p: usize) -> Act
+    ensures { λ r. ⌜ r ≡ mathRule (now (text .entry)) st p ⌝ }
 {
     if blank_at(text, p) {
-        if from < p {
-            Act::Ends(p, st.moved(p, Waiting::Nothing))
-        } else {
-            Act::NoMore
-        }
+        Act::Ends(p, st.moved(p, Waiting::Nothing))
     } else {
         Act::One
     }
@@ -340,7 +336,7 @@ pub(crate) fn first_rule(text: &[u8], st: ParserState, from: usize, p: usize, no
     }
     if st.math {
         Acted {
-            act: math_rule(text, st, from, p),
+            act: math_rule(text, st, p),
             note,
         }
     } else {
@@ -378,10 +374,6 @@ pub(crate) fn pass_act(text: &[u8], st: ParserState, from: usize, p: usize, note
         },
         Act::Ends(q, t) => Acted {
             act: Act::Ends(q, t),
-            note: later,
-        },
-        Act::NoMore => Acted {
-            act: Act::NoMore,
             note: later,
         },
     }

@@ -7,15 +7,14 @@ use mathlib.Core.Logic.{_⊎_, inl, inr}
 use mathlib.Core.Path.{_≡_, refl}
 use native.Mathlib.Nat.{le-refl}
 use native.Mathlib.Omega.{arith}
-use borrow.Author.Tests.{ltb-true, ltb-false}
-use lib.Dec.{ltb, eqb}
+use lib.Dec.{eqb}
 use lib.ListN.{getD, length, take, drop}
 use Rattle.basics.proofs.Laws.{by-test, by-place}
 use Rattle.byte_rules.specs.Reading.{Reading}
 use Rattle.look.specs.Look.{byteAt, blankAt, doubledAt, wordAt}
 use Rattle.scans.specs.Marks.{tick, tilde, lbracket, under, less, lf, openHtml, closeHtml}
 use Rattle.scans.specs.Ends.{blanksStep, blanksEnd, tagEnd, labelStep, labelEnd, subscriptEnd, italicEnd, isUrl}
-use Rattle.scans.proofs.Laws.{scan-ge, scan-le, clash}
+use Rattle.scans.proofs.Laws.{scan-ge, scan-le}
 use Rattle.scans.proofs.TagLaws.{tag-in}
 use Rattle.scans.proofs.EndLaws.{tag-closed}
 use Rattle.comment_parser.specs.State.{moved}
@@ -41,9 +40,8 @@ labelled s {buf} {b} {r} {q} {p} {x} {y} {n} f g h k l =
 -- a pass from the state st, whose run begins at `from`, ends its run at q and leaves the state t
 module _ (buf : List ℕ) (b : ℕ) (st : ParserState) (from q : ℕ) (t : ParserState) where
   -- and no event follows: in math at a blank, or at the end
-  pub record Plain : Type 0 where
-    pub full : (from < q) ⊎ (q ≡ b)
-    pub goes-on : t ≡ moved st q Nothing
+  abbrev Plain : Type 0
+  Plain = t ≡ moved st q Nothing
 
   -- or by an event, which waits
   pub record Ended : Type 0 where
@@ -61,7 +59,7 @@ RunPassed buf b st from r = Passed buf b st from (r .end) (r .after)
 module _ {s buf : List ℕ} {b : ℕ} (cut : Cut s buf b) (st : ParserState) (from p : ℕ) (h : from ≤ p) (l : p < length s) where
   -- what a rule at p may say
   abbrev Fine : Act → Type 0
-  Fine a = Good st from (λ i. from ≤ i) (RunPassed buf b st from) p a
+  Fine a = Good (λ i. from ≤ i) (RunPassed buf b st from) p a
 
   by-ending : (q : ℕ) (t : ParserState) (c : CommentItem) → Ending buf b from (st .math) q c (t .math) (t .pos) → t .waiting ≡ Item c → Passed buf b st from q t
   by-ending q t c m w = inr (record { item = c; ending = m; waits = w })
@@ -74,15 +72,9 @@ module _ {s buf : List ℕ} {b : ℕ} (cut : Cut s buf b) (st : ParserState) (fr
       (λ m. by-ending _ _ _ (rw m (close-math (byte-there cut p tick t) (after-there cut (p + 1)))) refl)
       (λ m. by-ending _ _ _ (rw m (open-math (before-there cut from p h) (byte-there cut p tick t))) refl))
 
-  math-fine : blankAt s from ≡ false → Fine (mathRule s st from p)
+  math-fine : Fine (mathRule s st p)
   unfolding mathRule
-  math-fine n =
-      by-test Fine (blankAt s p)
-      (λ t.
-      by-test Fine (ltb from p)
-      (λ u. inl (record { full = inl (ltb-true from p u); goes-on = refl }))
-      (λ u. let z : p ≡ from = omega (arith, ltb-false from p u) in clash n (rw z at t)))
-      (λ t. omega arith)
+  math-fine = by-test Fine (blankAt s p) (λ _. inl refl) (λ _. omega arith)
 
   html-fine : st .math ≡ false → Fine (htmlRule s st p)
   unfolding htmlRule
@@ -141,20 +133,15 @@ module _ {s buf : List ℕ} {b : ℕ} (cut : Cut s buf b) (st : ParserState) (fr
         by-test Fine (byteAt s p lbracket) (λ t. bracket-fine m t) (λ _.
         by-test Fine (st .html) (λ _. omega arith) (λ _. plain-fine m))))
 
-    first-fine : (st .math ≡ true → blankAt s from ≡ false) → Fine (firstRule rd s st from p)
+    first-fine : Fine (firstRule rd s st from p)
     unfolding firstRule
-    first-fine n =
+    first-fine =
         by-test Fine (byteAt s p tick) (λ t. tick-fine t) (λ _.
-        by-test Fine (st .math) (λ m. math-fine (n m)) (λ m. text-fine m))
+        by-test Fine (st .math) (λ _. math-fine) (λ m. text-fine m))
 
-    act-fine : (st .math ≡ true → blankAt s from ≡ false) → Fine (passAct rd s st from p)
-    act-fine n = act-by st p Fine rd s from (λ _ _. by-ending _ _ _ close-subscript refl) (λ _ _. by-ending _ _ _ close-subscript refl) (first-fine n)
+    act-fine : Fine (passAct rd s st from p)
+    act-fine = act-by st p Fine rd s from (λ _ _. by-ending _ _ _ close-subscript refl) (λ _ _. by-ending _ _ _ close-subscript refl) first-fine
 
--- behind skipped blanks no pass says that there is no more
-pub pass-passed :
-    {s buf : List ℕ} {b : ℕ} → Cut s buf b → (rd : Reading) (st : ParserState) (from : ℕ) → (st .math ≡ true → blankAt s from ≡ false) →
-    RunPassed buf b st from (pass rd s st from)
-pass-passed {s} {buf} {b} cut rd st from n =
-    pass-by rd s st from (λ i. from ≤ i) (RunPassed buf b st from) (λ p h l. act-fine cut st from p h l rd n)
-    (λ p h l. inl (record { full = inr (cut .long); goes-on = refl }))
-    (le-refl from)
+pub pass-passed : {s buf : List ℕ} {b : ℕ} → Cut s buf b → (rd : Reading) (st : ParserState) (from : ℕ) → RunPassed buf b st from (pass rd s st from)
+pass-passed {s} {buf} {b} cut rd st from =
+    pass-by rd s st from (λ i. from ≤ i) (RunPassed buf b st from) (λ p h l. act-fine cut st from p h l rd) (λ p h l. inl refl) (le-refl from)

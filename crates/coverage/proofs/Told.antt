@@ -12,12 +12,8 @@ use lib.Seq.{length-take-le, getD-take}
 use Rattle.basics.proofs.Laws.{by-test}
 use Rattle.records.specs.Answer.{longest}
 use Rattle.byte_rules.specs.Reading.{Reading}
-use Rattle.look.specs.Look.{blankAt}
-use Rattle.scans.specs.Ends.{blanksStep}
-use Rattle.scans.proofs.Laws.{scan-le, clash}
-use Rattle.scans.proofs.EndLaws.{blanks-stopped}
 use Rattle.comment_parser.specs.Item.{span}
-use Rattle.comment_parser.specs.State.{fresh, moved}
+use Rattle.comment_parser.specs.State.{Accepted, fresh, moved}
 use Rattle.comment_parser.specs.Pass.{runStart, runItem}
 use Rattle.comment_parser.specs.Next.{answered}
 use Rattle.comment_parser.specs.Events.{left, eventsFrom, eventsOf}
@@ -28,7 +24,8 @@ use Rattle.comment_parser.specs.declared.Next.the-variants.{Event}
 use Rattle.comment_parser.specs.declared.ParserState.{ParserState}
 use Rattle.comment_parser.specs.declared.Waiting.the-variants.{Nothing}
 use Rattle.comment_parser.proofs.Progress.{After, pass-after}
-use Rattle.comment_parser.proofs.Turns.{Turn, waited, ran, ended, over, turn, Accepted, past-waiting}
+use Rattle.comment_parser.proofs.Laws.{run-start-le, run-start-clean}
+use Rattle.comment_parser.proofs.Turns.{Turn, waited, ran, ended, over, turn, past-waiting}
 use Rattle.comment_parser.proofs.Events.{answers, seen-event, seen-end, seen-on, stays-accepted, events-on, events-end}
 use Rattle.comment_parser.proofs.Telling as telling
 use Rattle.coverage.specs.Demand3.{ReadToEnd, at-end, event}
@@ -65,19 +62,10 @@ module _ (rd : Reading) (buf : List ℕ) where
 
 -- ---- accounted for
 
--- what is dropped before the run that starts at r
-record Begun (s buf : List ℕ) (st : ParserState) (r : ℕ) : Type 0 where
-  pub gap : Gap buf (st .math) (st .pos) r
-  pub inside : r ≤ length s
-  pub stopped : st .math ≡ true → blankAt s r ≡ false
-
-begun : {s buf : List ℕ} {b : ℕ} → Cut s buf b → (st : ParserState) → st .pos ≤ length s → Begun s buf st (runStart s st)
+-- what is dropped before the run
+begun : {s buf : List ℕ} {b : ℕ} → Cut s buf b → (st : ParserState) → st .pos ≤ length s → Gap buf (st .math) (st .pos) (runStart s st)
 unfolding runStart
-begun {s} {buf} cut st h =
-    by-test (Begun s buf st) (st .math)
-    (λ m.
-    record { gap = rw m (math-gap (blanks-there cut (st .pos) h)); inside = scan-le (blanksStep s) (length s) (st .pos); stopped = λ _. blanks-stopped s (st .pos) })
-    (λ m. record { gap = no-gap; inside = h; stopped = λ t. clash m t })
+begun {buf = buf} cut st h = by-test (Gap buf (st .math) (st .pos)) (st .math) (λ m. rw m (math-gap (blanks-there cut (st .pos) h))) (λ _. no-gap)
 
 run-of : (m : Bool) (r q : ℕ) → elim m [ true ↦ MathToken (span r q) | false ↦ Text (span r q) ] ≡ runOf m r q
 run-of true r q = refl
@@ -95,13 +83,17 @@ module _ (buf : List ℕ) (b : ℕ) where
   abbrev Accounts : ParserState → List CommentItem → Type 0
   Accounts st es = Account buf b (st .math) (st .pos) es
 
-  accounted : {s : List ℕ} {st : ParserState} {r q : ℕ} (t : ParserState) → After s st r q t → Gap buf (st .math) (st .pos) r → Passed buf b st r q t → telling.Passed Is Accounts st st r q t
-  accounted {st = st} {r} {q} t o g (inl k) =
-      rw (k .goes-on)
+  accounted :
+      {s : List ℕ} {st : ParserState} {r q : ℕ} (t : ParserState) → length s ≡ b → After s st r q t → Gap buf (st .math) (st .pos) r → Passed buf b st r q t →
+      telling.Passed Is Accounts st st r q t
+  accounted {s} {st} {r} {q} t long o g (inl k) =
+      let w : t .waiting ≡ Nothing = rw k in
+      let stops : q ≤ r → r ≡ b = λ l. ⊎-elim (λ (f : r < q). absurd (omega arith)) (λ (z : q ≡ length s). omega (arith, o .starts)) (o .full w) in
+      rw k
       (telling.none-waits refl
-      (λ l. end (⊎-elim (λ (f : r < q). absurd (omega arith)) (λ (z : q ≡ b). let a : r ≡ b = omega (arith, o .starts) in rw a at g) (k .full)))
+      (λ l. let a = stops l in end (rw a at g))
       (λ l. record { to = moved st q Nothing; stands = refl; tells = λ es a. rw (run-item st r q) (run g l a) }))
-  accounted {st = st} {r} {q} t o g (inr k) =
+  accounted {st = st} {r} {q} t long o g (inr k) =
       telling.one-waits (k .waits)
       (λ l. let z : q ≡ r = omega (arith, o .starts) in record { to = moved t (t .pos) Nothing; stands = refl; tells = λ es a. ending g (past-waiting o (k .waits)) (rw z at (k .ending)) a })
       (λ l. record { to = moved t (t .pos) Nothing; stands = refl; tells = λ es a. rw (run-item st r q) (run-ending g l (o .past-run) (k .ending) a) })
@@ -112,9 +104,9 @@ module _ (buf : List ℕ) (b : ℕ) where
         let s = take b buf in
         let z : length s ≡ b = length-take-le b buf fits in
         let cut : Cut s buf b = record { long = z; same = λ i u. getD-take b buf i 0 (omega arith) } in
-        let g = begun cut st (omega (arith, k .accepted .inside, k .same-end)) in
+        let h : st .pos ≤ length s = omega (arith, k .accepted .inside, k .same-end) in
         subst (λ (u : ParserState). telling.Passes Is Accounts rd buf b u st) (sym e)
-        (accounted _ (pass-after rd s st (runStart s st) (g .inside)) (g .gap) (pass-passed cut rd st (runStart s st) (g .stopped)))
+        (accounted _ z (pass-after rd s st (runStart s st) (run-start-le s st h) (run-start-clean s st)) (begun cut st h) (pass-passed cut rd st (runStart s st)))
 
     pub accounts : (a : ℕ) → length buf ≤ longest → a ≤ b → Account buf b false a (eventsOf rd buf a b)
     accounts a short h = telling.told Is Accounts rd buf b passes (fresh a b) a short h fits refl

@@ -14,7 +14,7 @@ use Rattle.scans.proofs.Laws.{scan-end, scan-one, scan-two, scan-stop}
 use Rattle.comment_parser.specs.Rules.{passAct}
 use Rattle.comment_parser.specs.Pass.{passStep}
 use Rattle.comment_parser.specs.Notes.{Acts}
-use Rattle.comment_parser.proofs.Laws.{step-is, ended, no-more, ran-out, skip-less}
+use Rattle.comment_parser.proofs.Laws.{step-is, ended, ran-out, skip-less}
 use Rattle.comment_parser.proofs.pass.pass.Statement.{statement}
 use Rattle.comment_parser.proofs.pass.pass.Tie as tie
 
@@ -107,19 +107,6 @@ returns-2 c = λ h.
     let ends = sym (c .before .act .given .1) ∙ s .is in
     record { is = sym (ended _ _ _ _ _ (omega arith) (comes a h ∙ scan-stop _ _ _ (omega arith) (step-is _ _ _ _ _ _ ends)) _ _ ends); holds = s .holds }
 
-enum-told-3 : tie.Need-enum-told-3 Inv-loop μ-loop
-enum-told-3 c = search needs
-
-moved-requires-2 : tie.Need-moved-requires-2 Inv-loop μ-loop
-moved-requires-2 c κs = search needs
-
-returns-3 : tie.Need-returns-3 Inv-loop μ-loop
-returns-3 c = λ h.
-    let a = c .before .before .before .before in
-    let s = says a h in
-    let ends = sym (c .before .enum-told3 .given .1) ∙ s .is in
-    record { is = rw (c .moved2 .ensures) (sym (no-more _ _ _ _ _ (omega arith) (comes a h ∙ scan-stop _ _ _ (omega arith) (step-is _ _ _ _ _ _ ends)) ends)); holds = s .holds }
-
 pub pass-spec : {M : Type 1} → statement M
 pass-spec =
     tie.close
@@ -140,7 +127,4 @@ pass-spec =
     loop-less-2
     loop-again-2
     enum-known-act
-    returns-2
-    enum-told-3
-    moved-requires-2
-    returns-3)
+    returns-2)

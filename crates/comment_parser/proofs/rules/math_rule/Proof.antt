@@ -1,6 +1,5 @@
 -- `math_rule` meets its contract.
 -- Assumes nothing.
-use borrow.Author.Tests.{lt-ltb, le-ltb}
 use Rattle.comment_parser.specs.Rules.{mathRule}
 use borrow.Author.Needs.{needs}
 use Rattle.comment_parser.proofs.rules.math_rule.Statement.{statement}
@@ -14,15 +13,11 @@ moved-requires c κs = search needs
 
 returns : tie.Need-returns
 unfolding mathRule
-returns c = rw (mathRule, ← c .before .before .before .blank-at .ensures, c .before .before .if1 .taken, lt-ltb _ _ (c .before .if2 .taken), c .moved .ensures)
+returns c = rw (mathRule, ← c .before .before .blank-at .ensures, c .before .if1 .taken, c .moved .ensures)
 
 returns-2 : tie.Need-returns-2
 unfolding mathRule
-returns-2 c = rw (mathRule, ← c .before .before .blank-at .ensures, c .before .if1 .taken, le-ltb _ _ (c .if2 .left))
-
-returns-3 : tie.Need-returns-3
-unfolding mathRule
-returns-3 c = rw (mathRule, ← c .before .blank-at .ensures, c .if1 .left)
+returns-2 c = rw (mathRule, ← c .before .blank-at .ensures, c .if1 .left)
 
 pub math-rule-spec : {M : Type 1} → statement M
-math-rule-spec = tie.close (tie.spec blank-at-requires moved-requires returns returns-2 returns-3)
+math-rule-spec = tie.close (tie.spec blank-at-requires moved-requires returns returns-2)

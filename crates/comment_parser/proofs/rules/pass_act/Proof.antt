@@ -29,9 +29,6 @@ step-to-requires-2 c κs = search needs
 enum-known-act : tie.Need-enum-known-act
 enum-known-act c = search needs
 
-enum-told-3 : tie.Need-enum-told-3
-enum-told-3 c = search needs
-
 returns : tie.Need-returns
 unfolding passAct
 returns c = λ h. let t = c .before .before .before .before .first-rule .ensures h in record { is = rw (passAct, ← t .is, c .before .enum-told .given .1, c .step-to .ensures); holds = t .holds }
@@ -43,10 +40,6 @@ returns-2 c = λ h. let t = c .before .before .before .before .first-rule .ensur
 returns-3 : tie.Need-returns-3
 unfolding passAct
 returns-3 c = λ h. let t = c .before .before .before .before .first-rule .ensures h in record { is = rw (passAct, ← t .is, c .before .act .given .1); holds = t .holds }
-
-returns-4 : tie.Need-returns-4
-unfolding passAct
-returns-4 c = λ h. let t = c .before .before .before .first-rule .ensures h in record { is = rw (passAct, ← t .is, c .enum-told3 .given .1); holds = t .holds }
 
 pub pass-act-spec : {M : Type 1} → statement M
 pass-act-spec =
@@ -60,8 +53,6 @@ pass-act-spec =
     add-step-to-2
     step-to-requires-2
     enum-known-act
-    enum-told-3
     returns
     returns-2
-    returns-3
-    returns-4)
+    returns-3)
