@@ -3,6 +3,7 @@ pub mod State
 pub mod Rules
 pub mod Pass
 pub mod Next
+pub mod End
 pub mod Events
 pub mod Notes
 pub mod Bounds

@@ -1,9 +1,11 @@
--- What stands where a search stopped: blanks alone lie before the end of blanks and none stands there; at a tag's end stands its `]`.
+-- What stands where a search stopped: blanks alone lie before the end of blanks and none stands there, or the text ends there; at a tag's end stands
+-- its `]`.
 -- Assumes nothing.
 use Prim.Native.Nat.{ℕ, _+_, _≤_, _<_}
 use mathlib.Core.Bool.{Bool, true, false}
 use mathlib.Core.Path.{_≡_, refl}
 use mathlib.Core.List.{List}
+use native.Mathlib.Nat.{le-refl}
 use native.Mathlib.Omega.{arith}
 use lib.ListN.{length}
 use Rattle.basics.proofs.Laws.{differ}
@@ -13,7 +15,7 @@ use Rattle.scans.specs.Marks.{rbracket}
 use Rattle.scans.specs.Ends.{blanksStep, blanksEnd, tagStop, tagEnd}
 use Rattle.basics.specs.declared.Place.the-variants.{At, Nowhere}
 use Rattle.scans.specs.declared.Step.the-variants.{One, Stop}
-use Rattle.scans.proofs.Laws.{Leads, by-one, stops, scanned, by-less}
+use Rattle.scans.proofs.Laws.{Leads, by-one, stops, scanned, scan-ge, scan-le, by-less, clash}
 
 module _ (s : List ℕ) (i : ℕ) where
   -- blanks alone from i up to j
@@ -48,6 +50,13 @@ module _ (s : List ℕ) (i : ℕ) where
   -- and there stands none
   pub blanks-stopped : blankAt s (blanksEnd s i) ≡ false
   blanks-stopped = blanks-stop .1
+
+-- where blanks alone are left they go to the end
+pub blanks-to-end : (s : List ℕ) (i : ℕ) → i ≤ length s → ((k : ℕ) → i ≤ k → k < length s → blankAt s k ≡ true) → blanksEnd s i ≡ length s
+blanks-to-end s i h f =
+    let u : i ≤ blanksEnd s i = scan-ge (blanksStep s) (length s) i i (le-refl i) h in
+    let v : blanksEnd s i ≤ length s = scan-le (blanksStep s) (length s) i in
+    by-less (blanksEnd s i) (length s) (λ l. clash (blanks-stopped s i) (f (blanksEnd s i) u l)) (λ l. omega arith)
 
 found : (b : Bool) (j q : ℕ) → elim b [ true ↦ At j | false ↦ Nowhere ] ≡ At q → (b ≡ true) × (j ≡ q)
 found true j q h = (refl, cc)
