@@ -118,10 +118,10 @@ fn spread(kind: u32, at: usize, s: Span) -> Placed
     }
 }
 
-// An event that waits to be given.
+// An event that waits to be given, if there is one.
 pub enum Waiting {
-    Item(CommentItem),
     Nothing,
+    Item(CommentItem),
 }
 
 // Where a parser stands: the end it reads to, its position, its modes, the event that waits, and the noted ends of an italic and a subscript.
@@ -142,16 +142,16 @@ pub enum Act {
     Ends(usize, ParserState),
 }
 
-// What a rule says, and the note about tags as it stands then.
+// The note about tags as it stands after a rule, and what the rule says.
 pub struct Acted {
-    pub act: Act,
     pub note: Note,
+    pub act: Act,
 }
 
-// A run's end, and the state after it.
+// The state after a run, and the run's end.
 pub struct Run {
-    pub end: usize,
     pub after: ParserState,
+    pub end: usize,
 }
 
 // An answer of `next`: the state after it first, which so lies at one place in each, and then what is given.
