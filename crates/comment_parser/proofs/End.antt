@@ -3,7 +3,6 @@
 use Prim.Native.Nat.{ℕ, _≤_, _<_}
 use mathlib.Core.Bool.{Bool, true, false}
 use mathlib.Core.List.{List}
-use mathlib.Core.Logic.{⊎-elim}
 use mathlib.Core.Option.{none}
 use mathlib.Core.Path.{_≡_, refl, sym, _∙_}
 use native.Mathlib.Omega.{arith}
@@ -26,7 +25,7 @@ use Rattle.comment_parser.specs.declared.ParserState.{ParserState}
 use Rattle.comment_parser.specs.declared.Waiting.the-variants.{Item, Nothing}
 use Rattle.comment_parser.proofs.Laws.{ran-out, run-start-le, run-start-clean}
 use Rattle.comment_parser.proofs.Progress.{act-full}
-use Rattle.comment_parser.proofs.Turns.{Turn, waited, ran, ended, over, turn, passing, runRead}
+use Rattle.comment_parser.proofs.Turns.{Turn, waited, ran, ended, over, turn, passing, begun-at-end, runRead}
 use Rattle.comment_parser.proofs.Events.{answers}
 
 -- ---- no token is empty
@@ -54,12 +53,12 @@ module _ (rd : Reading) (buf : List ℕ) (st : ParserState) (a : Accepted buf st
   long : length text ≡ st .end
   long = length-take-le (st .end) buf (a .fits)
 
-  blank-there : (k : ℕ) → k < st .end → blankAt text k ≡ blankAt buf k
-  blank-there k l = blank-same (same-inside (omega (arith, long)) (omega (arith, a .fits)) (getD-take (st .end) buf k 0 l))
+  same-blank : (k : ℕ) → k < st .end → blankAt text k ≡ blankAt buf k
+  same-blank k l = blank-same (same-inside (omega (arith, long)) (omega (arith, a .fits)) (getD-take (st .end) buf k 0 l))
 
   -- where nothing is left the run starts at the end, and nowhere else does it
   left-none : (m : Bool) → st .math ≡ m → elim m [ true ↦ blanksEnd text (st .pos) | false ↦ st .pos ] ≡ st .end → NothingLeft buf st
-  left-none true m z = blanks-in-math m (λ k l u. sym (blank-there k u) ∙ blanks-passed text (st .pos) k l (omega (arith, z)))
+  left-none true m z = blanks-in-math m (λ k l u. sym (same-blank k u) ∙ blanks-passed text (st .pos) k l (omega (arith, z)))
   left-none false m z = nothing z
 
   starts-at-end : runStart text st ≡ st .end → NothingLeft buf st
@@ -68,7 +67,7 @@ module _ (rd : Reading) (buf : List ℕ) (st : ParserState) (a : Accepted buf st
 
   start-of : (m : Bool) → st .math ≡ m → NothingLeft buf st → elim m [ true ↦ blanksEnd text (st .pos) | false ↦ st .pos ] ≡ length text
   start-of true m (nothing z) = blanks-to-end text (st .pos) (omega (arith, long)) (λ k l u. absurd (omega (arith, long)))
-  start-of true m (blanks-in-math _ f) = blanks-to-end text (st .pos) (omega (arith, long, a .inside)) (λ k l u. blank-there k (omega (arith, long)) ∙ f k l (omega (arith, long)))
+  start-of true m (blanks-in-math _ f) = blanks-to-end text (st .pos) (omega (arith, long, a .inside)) (λ k l u. same-blank k (omega (arith, long)) ∙ f k l (omega (arith, long)))
   start-of false m (nothing z) = z ∙ sym long
   start-of false m (blanks-in-math t f) = absurd (differ cc)
 
@@ -82,10 +81,7 @@ module _ (rd : Reading) (buf : List ℕ) (st : ParserState) (a : Accepted buf st
   is-over (ran n l) e = absurd (differ cc)
   is-over (ended n l w) e = absurd (differ cc)
   is-over (over n l w) e =
-      let p = passing rd buf st a in
-      let z : runStart text st ≡ st .end =
-      ⊎-elim (λ (f : runStart text st < runRead rd text st .end). absurd (omega arith)) (λ (f : runRead rd text st .end ≡ length text). omega (arith, long, p .after .starts)) (p .after .full w) in
-      record { no-event-waits = n; nothing-left = starts-at-end z }
+      record { no-event-waits = n; nothing-left = starts-at-end (begun-at-end (passing rd buf st a .after) w l ∙ long) }
 
   abbrev theEnd : Outcome
   theEnd = record { answer = bare 0; event = none; state = moved st (st .end) Nothing }

@@ -74,8 +74,12 @@ pub run-start-le : (s : List ℕ) (st : ParserState) → st .pos ≤ length s �
 unfolding runStart
 run-start-le s st h = start-le (st .math) _ _ _ (scan-le _ _ _) h
 
--- in math blanks are skipped before the run, so it starts where none stands
-pub run-start-clean : (s : List ℕ) (st : ParserState) → st .math ≡ true → blankAt s (runStart s st) ≡ false
+-- in math no blank stands at a place
+abbrev pub Clean : List ℕ → ParserState → ℕ → Type 0
+Clean s st p = st .math ≡ true → blankAt s p ≡ false
+
+-- blanks are skipped before the run, so it starts at such a place
+pub run-start-clean : (s : List ℕ) (st : ParserState) → Clean s st (runStart s st)
 unfolding runStart
 run-start-clean s st m = rw (runStart, m) (blanks-stopped s (st .pos))
 

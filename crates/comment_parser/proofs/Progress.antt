@@ -19,6 +19,7 @@ use Rattle.scans.specs.Marks.{tick, tilde, lbracket, under, less, lf, space, op
 use Rattle.scans.specs.Ends.{blanksStep, blanksEnd, tagEnd, labelStep, labelEnd, subscriptEnd, italicEnd, isUrl}
 use Rattle.scans.proofs.Laws.{scan-le, scan-ge, by-less, clash}
 use Rattle.scans.proofs.TagLaws.{tag-in}
+use Rattle.comment_parser.proofs.Laws.{Clean}
 use Rattle.comment_parser.proofs.Passes.{Good, Noted, pass-by, act-by}
 use Rattle.comment_parser.specs.Item.{placedOf}
 use Rattle.comment_parser.specs.Bounds.{Within}
@@ -85,6 +86,7 @@ unfolding afterLf
 lf-past s zero i h = absurd (differ cc)
 lf-past s (suc n) i h = omega arith
 
+-- a blank stands past a start that is none
 past-start : (s : List ℕ) (from p : ℕ) → from ≤ p → blankAt s from ≡ false → blankAt s p ≡ true → from < p
 past-start s from p h n t = by-less from p (λ l. l) (λ l. let z : p ≡ from = omega arith in clash n (rw z at t))
 
@@ -185,22 +187,22 @@ module _ (s : List ℕ) (st : ParserState) (from p : ℕ) (h : from ≤ p) (i : 
         by-test Sound (byteAt s p lbracket) (λ _. bracket-sound) (λ _.
         by-test Sound (st .html) (λ _. omega arith) (λ _. plain-sound))))
 
-    first-sound : (st .math ≡ true → blankAt s from ≡ false) → Sound (firstRule rd s st from p)
+    first-sound : Clean s st from → Sound (firstRule rd s st from p)
     unfolding firstRule
     first-sound n =
         by-test Sound (byteAt s p tick) (λ _. tick-sound) (λ _.
         by-test Sound (st .math) (λ m. math-sound (n m)) (λ _. text-sound))
 
-    act-sound : (st .math ≡ true → blankAt s from ≡ false) → Sound (passAct rd s st from p)
+    act-sound : Clean s st from → Sound (passAct rd s st from p)
     act-sound n = act-by st p Sound rd s from (λ k. noted-sound (p + 1) (omega arith) (k .1)) (λ k. noted-sound (p + 2) (omega arith) (k .1)) (first-sound n)
 
     -- a rule that leaves nothing waiting ends a run that is not empty
-    pub act-full : (st .math ≡ true → blankAt s from ≡ false) → (q : ℕ) (t : ParserState) → passAct rd s st from p ≡ Ends q t → t .waiting ≡ Nothing → from < q
+    pub act-full : Clean s st from → (q : ℕ) (t : ParserState) → passAct rd s st from p ≡ Ends q t → t .waiting ≡ Nothing → from < q
     act-full n q t e w = let a : After s st from q t = rw e at (act-sound n) in ⊎-elim (λ (l : from < q). l) (λ (z : q ≡ length s). omega arith) (a .full w)
 
 -- a pass from within the text, in math from where no blank stands
 pub pass-after :
-    (rd : Reading) (s : List ℕ) (st : ParserState) (from : ℕ) → from ≤ length s → (st .math ≡ true → blankAt s from ≡ false) →
+    (rd : Reading) (s : List ℕ) (st : ParserState) (from : ℕ) → from ≤ length s → Clean s st from →
     After s st from (pass rd s st from .end) (pass rd s st from .after)
 pass-after rd s st from h n =
     pass-by rd s st from (Comes s st from) (Ended s st from) (λ p k l. act-sound s st from p (k .0) l rd n)

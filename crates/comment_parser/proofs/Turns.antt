@@ -112,6 +112,10 @@ passing rd buf st a =
 pub past-waiting : {s : List ℕ} {st t : ParserState} {from q : ℕ} {i : CommentItem} → After s st from q t → t .waiting ≡ Item i → from < t .pos
 past-waiting {t = t} {from = from} a w = ⊎-elim (λ (l : from < t .pos). l) (λ (n : t .waiting ≡ Nothing). absurd (differ cc)) (a .on)
 
+-- with none waiting, and an empty run, its run began at the end of the text
+pub begun-at-end : {s : List ℕ} {st t : ParserState} {from q : ℕ} → After s st from q t → t .waiting ≡ Nothing → q ≤ from → from ≡ length s
+begun-at-end {s} {from = from} {q} a w l = ⊎-elim (λ (f : from < q). absurd (omega arith)) (λ (z : q ≡ length s). omega (arith, a .starts)) (a .full w)
+
 pub record GoesOn (st t : ParserState) : Type 0 where
   pub same-end : t .end ≡ st .end
   pub within : t .pos ≤ t .end

@@ -48,7 +48,7 @@ pub record Over (buf : List ℕ) (st : ParserState) : Type 0 where
 abbrev pub EndAnswered : Reading → List ℕ → ParserState → Type 0
 EndAnswered rd buf st = (nextOf rd buf st .answer ≡ bare 0) × (nextOf rd buf st .event ≡ none)
 
--- "exactly when"; and the state that the end gives: its position is its end, all else is as it was
+-- "exactly when"; and the state that the end gives stands at its end, and is as it was in all else
 pub record EndsExactly (rd : Reading) (buf : List ℕ) (st : ParserState) : Type 0 where
   pub only-when : EndAnswered rd buf st → Over buf st
   pub whenever : Over buf st → EndAnswered rd buf st

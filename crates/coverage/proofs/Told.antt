@@ -4,8 +4,8 @@
 use Prim.Native.Nat.{ℕ, zero, suc, _≤_, _<_}
 use mathlib.Core.Bool.{Bool, true, false}
 use mathlib.Core.List.{List}
-use mathlib.Core.Logic.{inl, inr, ⊎-elim}
-use mathlib.Core.Path.{_≡_, refl, sym, subst}
+use mathlib.Core.Logic.{inl, inr}
+use mathlib.Core.Path.{_≡_, refl, sym, subst, _∙_}
 use native.Mathlib.Omega.{arith}
 use lib.ListN.{length, take}
 use lib.Seq.{length-take-le, getD-take}
@@ -25,7 +25,7 @@ use Rattle.comment_parser.specs.declared.ParserState.{ParserState}
 use Rattle.comment_parser.specs.declared.Waiting.the-variants.{Nothing}
 use Rattle.comment_parser.proofs.Progress.{After, pass-after}
 use Rattle.comment_parser.proofs.Laws.{run-start-le, run-start-clean}
-use Rattle.comment_parser.proofs.Turns.{Turn, waited, ran, ended, over, turn, past-waiting}
+use Rattle.comment_parser.proofs.Turns.{Turn, waited, ran, ended, over, turn, past-waiting, begun-at-end}
 use Rattle.comment_parser.proofs.Events.{answers, seen-event, seen-end, seen-on, stays-accepted, events-on, events-end}
 use Rattle.comment_parser.proofs.Telling as telling
 use Rattle.coverage.specs.Demand3.{ReadToEnd, at-end, event}
@@ -86,12 +86,11 @@ module _ (buf : List ℕ) (b : ℕ) where
   accounted :
       {s : List ℕ} {st : ParserState} {r q : ℕ} (t : ParserState) → length s ≡ b → After s st r q t → Gap buf (st .math) (st .pos) r → Passed buf b st r q t →
       telling.Passed Is Accounts st st r q t
-  accounted {s} {st} {r} {q} t long o g (inl k) =
+  accounted {st = st} {r} {q} t long o g (inl k) =
       let w : t .waiting ≡ Nothing = rw k in
-      let stops : q ≤ r → r ≡ b = λ l. ⊎-elim (λ (f : r < q). absurd (omega arith)) (λ (z : q ≡ length s). omega (arith, o .starts)) (o .full w) in
       rw k
       (telling.none-waits refl
-      (λ l. let a = stops l in end (rw a at g))
+      (λ l. let a : r ≡ b = begun-at-end o w l ∙ long in end (rw a at g))
       (λ l. record { to = moved st q Nothing; stands = refl; tells = λ es a. rw (run-item st r q) (run g l a) }))
   accounted {st = st} {r} {q} t long o g (inr k) =
       telling.one-waits (k .waits)
