@@ -18,7 +18,7 @@ use Rattle.scans.proofs.Laws.{by-less, scan-end}
 use Rattle.scans.proofs.EndLaws.{blanks-passed, blanks-to-end}
 use Rattle.comment_parser.specs.State.{Accepted, moved}
 use Rattle.comment_parser.specs.Pass.{atEnd, passStep, runStart}
-use Rattle.comment_parser.specs.Next.{Outcome, stepAnswer, answered, nextOf}
+use Rattle.comment_parser.specs.Next.{Outcome, stepAnswer, nextOf}
 use Rattle.comment_parser.specs.End.{EndOrNoBlank, the-end, no-blank, NoTokenIsEmpty, NothingLeft, nothing, blanks-in-math, Over, EndAnswered, EndExactlyWhenOver}
 use Rattle.comment_parser.specs.declared.Next.{Next}
 use Rattle.comment_parser.specs.declared.ParserState.{ParserState}
@@ -26,7 +26,7 @@ use Rattle.comment_parser.specs.declared.Waiting.the-variants.{Item, Not
 use Rattle.comment_parser.proofs.Laws.{ran-out, run-start-le, run-start-clean}
 use Rattle.comment_parser.proofs.Progress.{act-full}
 use Rattle.comment_parser.proofs.Turns.{Turn, waited, ran, ended, over, turn, passing, begun-at-end, runRead}
-use Rattle.comment_parser.proofs.Events.{answers}
+use Rattle.comment_parser.proofs.Events.{next-is}
 
 -- ---- no token is empty
 
@@ -92,17 +92,14 @@ module _ (rd : Reading) (buf : List ℕ) (st : ParserState) (a : Accepted buf st
   ends-there i r z (ended {i = c} n l w) = let k : Nothing ≡ Item c = rw r at w in absurd (differ cc)
   ends-there i r z (over n l w) = rw (r, long)
 
-  next-is : nextOf rd buf st ≡ stepAnswer (answered rd buf st)
-  next-is = answers rd buf st a refl
-
   ends : Over buf st → nextOf rd buf st ≡ theEnd
   ends o =
       let z = run-starts (o .nothing-left) in
       let r : runRead rd text st ≡ atEnd text st = ran-out rd text st (runStart text st) (scan-end (passStep rd text st (runStart text st)) (length text) (runStart text st) (omega (arith, z))) in
-      next-is ∙ ends-there (o .no-event-waits) r z (turn rd buf st)
+      next-is rd buf st a ∙ ends-there (o .no-event-waits) r z (turn rd buf st)
 
   when-over : EndAnswered rd buf st → Over buf st
-  when-over e = is-over (turn rd buf st) (rw next-is at (e .1))
+  when-over e = is-over (turn rd buf st) (rw (next-is rd buf st a) at (e .1))
 
 pub end-exactly-when-over : EndExactlyWhenOver
 end-exactly-when-over rd buf st a =

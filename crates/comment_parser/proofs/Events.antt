@@ -21,7 +21,8 @@ use Rattle.comment_parser.specs.declared.Next.the-variants.{Event, End, 
 use Rattle.comment_parser.proofs.Turns.{GoesOn, answered-on}
 
 module _ (rd : Reading) (buf : List ℕ) (st : ParserState) where
-  next-is : Accepted buf st → nextOf rd buf st ≡ stepAnswer (answered rd buf st)
+  -- an accepted state is answered, and not refused
+  pub next-is : Accepted buf st → nextOf rd buf st ≡ stepAnswer (answered rd buf st)
   unfolding nextOf
   next-is a = rw (nextOf, ← state-good (length buf) (st .pos) (st .end) (a .short) (a .inside) (a .fits))
 

@@ -10,7 +10,7 @@ blanks-end-requires c κs = search needs
 
 returns : tie.Need-returns
 unfolding runStart
-returns c = rw (runStart, c .before .if1 .taken, c .blanks-end .ensures)
+returns c = rw (runStart, c .before .if1 .taken) (c .blanks-end .ensures)
 
 returns-2 : tie.Need-returns-2
 unfolding runStart
