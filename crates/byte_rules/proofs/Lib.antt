@@ -1,4 +1,5 @@
 pub mod Laws
+mod MaskLaws
 mod NameLaws
 mod CharLaws
 pub mod Characters

@@ -1,7 +1,14 @@
 // The byte rules of document 01: what class a byte belongs to. The crates above know them by these promises alone.
+// Four classes stand on one sheet (classes.rt). What a text asks for most is told by a comparison, before the sheet is read.
+mod classes;
 pub mod names;
 pub mod utf8;
 
+use classes::ALPHANUMERIC;
+use classes::BLANK;
+use classes::CLOSER;
+use classes::ITALIC_OPENER;
+use classes::mask;
 ghost use mathlib.Core.Path.{_≡_};
 ghost use Rattle.byte_rules.specs.Classes.{isBlank, isCloser, isItalicOpener, isDigit, isCapital, isSmall, isAlphanumeric};
 ghost use Rattle.byte_rules.specs.Classes.{isCreditSpace, isAuthorByte, isTextEscape, isLabelEscape, isMathEscape};
@@ -10,22 +17,33 @@ ghost use Rattle.byte_rules.specs.Classes.{isCreditSpace, isAuthorByte, 
 pub fn is_blank(c: u8) -> bool
     ensures { λ r. ⌜ r ≡ isBlank c ⌝ }
 {
-    (c == b'\t') | (c == b'\n') | (c == 12) | (c == b'\r') | (c == b' ')
+    if c == b' ' {
+        return true;
+    }
+    if b' ' < c {
+        return false;
+    }
+    mask(c) & BLANK != 0
 }
 
 // What may follow a subscript, a closing backtick or a label.
 pub fn is_closer(c: u8) -> bool
     ensures { λ r. ⌜ r ≡ isCloser c ⌝ }
 {
-    let stop = (c == b'.') | (c == b',') | (c == b';') | (c == b')') | (c == b'?') | (c == b'!');
-    stop | (c == b':') | (c == b']') | (c == b'\'') | (c == b'"') | (c == b'_') | (c == b'-')
+    if c < b'!' {
+        return false;
+    }
+    if b'_' < c {
+        return false;
+    }
+    mask(c) & CLOSER != 0
 }
 
 // What may stand before an italic, beside a blank.
 pub fn is_italic_opener(c: u8) -> bool
     ensures { λ r. ⌜ r ≡ isItalicOpener c ⌝ }
 {
-    (c == b'(') | (c == b'[') | (c == b'\'') | (c == b'"')
+    mask(c) & ITALIC_OPENER != 0
 }
 
 pub fn is_digit(c: u8) -> bool
@@ -49,7 +67,10 @@ pub fn is_small(c: u8) -> bool
 pub fn is_alphanumeric(c: u8) -> bool
     ensures { λ r. ⌜ r ≡ isAlphanumeric c ⌝ }
 {
-    is_digit(c) | is_capital(c) | is_small(c)
+    if b'a' <= c {
+        return c <= b'z';
+    }
+    mask(c) & ALPHANUMERIC != 0
 }
 
 // The spaces of a credit or a notice: tab is none.

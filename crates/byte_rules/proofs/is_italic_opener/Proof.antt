@@ -1,13 +1,15 @@
 -- `is_italic_opener` meets its contract.
 -- Assumes nothing.
-use Rattle.byte_rules.specs.Classes.{isItalicOpener}
-use mathlib.Core.Path.{refl}
+use borrow.Author.Needs.{needs}
+use Rattle.byte_rules.proofs.MaskLaws.{opener-bit}
 use Rattle.byte_rules.proofs.is_italic_opener.Statement.{statement}
 use Rattle.byte_rules.proofs.is_italic_opener.Tie as tie
 
+mask-requires : tie.Need-mask-requires
+mask-requires c κs = search needs
+
 returns : tie.Need-returns
-unfolding isItalicOpener
-returns c = refl
+returns c = rw (c .mask .ensures) (opener-bit _)
 
 pub is-italic-opener-spec : {M : Type 1} → statement M
-is-italic-opener-spec = tie.close (tie.spec returns)
+is-italic-opener-spec = tie.close (tie.spec mask-requires returns)
