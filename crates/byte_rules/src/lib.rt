@@ -13,7 +13,7 @@ ghost use mathlib.Core.Path.{_≡_};
 ghost use Rattle.byte_rules.specs.Classes.{isBlank, isCloser, isItalicOpener, isDigit, isCapital, isSmall, isAlphanumeric};
 ghost use Rattle.byte_rules.specs.Classes.{isCreditSpace, isAuthorByte, isTextEscape, isLabelEscape, isMathEscape};
 
-// Tab, LF, form feed, CR, space.
+// Tab, LF, form feed, CR, space: from the space on, the space alone.
 pub fn is_blank(c: u8) -> bool
     ensures { λ r. ⌜ r ≡ isBlank c ⌝ }
 {
@@ -26,7 +26,7 @@ pub fn is_blank(c: u8) -> bool
     mask(c) & BLANK != 0
 }
 
-// What may follow a subscript, a closing backtick or a label.
+// What may follow a subscript, a closing backtick or a label. None stands before `!` or behind `_`.
 pub fn is_closer(c: u8) -> bool
     ensures { λ r. ⌜ r ≡ isCloser c ⌝ }
 {
@@ -64,6 +64,7 @@ pub fn is_small(c: u8) -> bool
     (b'a' <= c) & (c <= b'z')
 }
 
+// An ASCII letter or digit: from `a` on, the small letters alone.
 pub fn is_alphanumeric(c: u8) -> bool
     ensures { λ r. ⌜ r ≡ isAlphanumeric c ⌝ }
 {
