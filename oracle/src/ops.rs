@@ -134,11 +134,16 @@ fn is_calendar_date(year: u32, month: u32, day: u32) -> bool {
     let length = match month {
         1 | 3 | 5 | 7 | 8 | 10 | 12 => 31,
         4 | 6 | 9 | 11 => 30,
-        2 if year % 4 == 0 => 29,
+        2 if is_leap(year) => 29,
         2 => 28,
         _ => 0,
     };
     1 <= day && day <= length
+}
+
+/// A year divisible by four has the extra day, unless it is divisible by 100 and not by 400.
+fn is_leap(year: u32) -> bool {
+    year % 4 == 0 && (year % 100 != 0 || year % 400 == 0)
 }
 
 /// The date that op O packs into one number.

@@ -1,13 +1,13 @@
-// The calendar check.
+// The calendar check, by the Gregorian calendar.
 use crate::Date;
 ghost use mathlib.Core.Path.{_≡_};
 ghost use Rattle.date.specs.Calendar.{isLeap, monthDays, isCalendar};
 
-// A year whose February has 29 days.
+// A year that has the extra day: divisible by four, unless by 100 and not by 400.
 fn is_leap(year: u16) -> bool
     ensures { λ r. ⌜ r ≡ isLeap year ⌝ }
 {
-    year % 4 == 0
+    (year % 4 == 0) & !((year % 100 == 0) & (year % 400 != 0))
 }
 
 // How many days a month has.

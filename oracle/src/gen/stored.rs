@@ -115,7 +115,14 @@ fn dates(sink: &mut Sink) {
         "0-Aug-1993",
         "29-Feb-2020",
         "29-Feb-2021",
+        "28-Feb-1900",
         "29-Feb-1900",
+        "28-Feb-2100",
+        "29-Feb-2100",
+        "29-Feb-2000",
+        "30-Feb-2000",
+        "29-Feb-0000",
+        "30-Feb-0000",
         "30-Feb-2020",
         "99-Dec-9999",
         "00-Dec-0000",
@@ -154,17 +161,11 @@ fn calendar(sink: &mut Sink) {
             sink.put(&Case { op: b'K', a: 2023, b, c, ..Case::default() });
         }
     }
-    for (a, b, c) in [
-        (0, 2, 29),
-        (4, 2, 29),
-        (1900, 2, 29),
-        (2000, 2, 29),
-        (2020, 2, 29),
-        (2020, 2, 30),
-        (65_535, 2, 29),
-        (65_532, 2, 29),
-    ] {
-        sink.put(&Case { op: b'K', a, b, c, ..Case::default() });
+    let centuries = [0, 100, 200, 300, 400, 1900, 2000, 2100, 9900, 10_000, 10_100, 65_200, 65_500];
+    for a in [4, 2020, 65_532, 65_535].into_iter().chain(centuries) {
+        for c in [28, 29, 30] {
+            sink.put(&Case { op: b'K', a, b: 2, c, ..Case::default() });
+        }
     }
     for (b, c) in [(255, 1), (1, 255), (128, 128)] {
         sink.put(&Case { op: b'K', a: 1, b, c, ..Case::default() });
