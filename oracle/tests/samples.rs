@@ -66,6 +66,19 @@ fn dates() {
     date("01-Jan-20201", "5");
 }
 
+/// Each is read; the last number is the calendar check's.
+#[test]
+fn centuries() {
+    date("28-Feb-1900", "0 1900 2 28 1");
+    date("29-Feb-1900", "0 1900 2 29 0");
+    date("28-Feb-2100", "0 2100 2 28 1");
+    date("29-Feb-2100", "0 2100 2 29 0");
+    date("29-Feb-2000", "0 2000 2 29 1");
+    date("30-Feb-2000", "0 2000 2 30 0");
+    date("29-Feb-0000", "0 0 2 29 1");
+    date("30-Feb-0000", "0 0 2 30 0");
+}
+
 #[test]
 fn credit_samples() {
     let slipped = "(Contributed by Ann (Revised by Bob, 2-Feb-2020.)";

@@ -20,8 +20,9 @@ use Rattle.comment_parser.specs.Events.{seen, eventsFrom, eventsOf}
 use Rattle.date.specs.Numbers.{digitsOn, digits, number}
 use Rattle.date.specs.Months.{names, letterOf, isMonthName, monthIn, monthOf}
 use Rattle.date.specs.Reading.{fields, readDate}
+use Rattle.date.specs.Calendar.{isLeap, monthDays, isCalendar}
 use Rattle.samples.specs.Samples.{computed, table}
 
 pub samples : (a b c d e f g h i j k l : ℕ) → map computed (table a b c d e f g h i j k l) ≡ table a b c d e f g h i j k l
-unfolding isCreditSpace isAuthorByte byteOr within isTail isOne isTwo isThree isFour charLen spaceRun spacesAt signAt phraseAt fits pictureAt dateAt authorStart authorByte authorLen authorWithin authorEnd authorAfter headAt noticeAt tailAt restAt creditAt matchAt firstOf nextFrom bytesLeft stepFrom matchesFrom isBlank isCloser isItalicOpener isDigit isCapital isSmall isAlphanumeric barsNothing holdsAt isByte byteAt blankAt alphanumericAt closerAt italicOpenerAt doubledAt wordAt walk scan blanksStep tagStep subscriptStep italicStep tagEnd opensTag labelStopper htmlMark labelStep closesItalic subscriptEnd italicEnd isUrl stateRefusal turns produced blankBefore opensAhead beforeOpen afterClose afterLf labelItem tickRule mathRule tildeRule newlineRule htmlRule bracketRule opensItalic stepTo openUnder underRule plainRule textRule firstRule passAct runStart passStep endedAt pass runItem give readOn answered nextOf seen eventsFrom eventsOf digitsOn digits number names letterOf isMonthName monthIn monthOf fields readDate
+unfolding isCreditSpace isAuthorByte byteOr within isTail isOne isTwo isThree isFour charLen spaceRun spacesAt signAt phraseAt fits pictureAt dateAt authorStart authorByte authorLen authorWithin authorEnd authorAfter headAt noticeAt tailAt restAt creditAt matchAt firstOf nextFrom bytesLeft stepFrom matchesFrom isBlank isCloser isItalicOpener isDigit isCapital isSmall isAlphanumeric barsNothing holdsAt isByte byteAt blankAt alphanumericAt closerAt italicOpenerAt doubledAt wordAt walk scan blanksStep tagStep subscriptStep italicStep tagEnd opensTag labelStopper htmlMark labelStep closesItalic subscriptEnd italicEnd isUrl stateRefusal turns produced blankBefore opensAhead beforeOpen afterClose afterLf labelItem tickRule mathRule tildeRule newlineRule htmlRule bracketRule opensItalic stepTo openUnder underRule plainRule textRule firstRule passAct runStart passStep endedAt pass runItem give readOn answered nextOf seen eventsFrom eventsOf digitsOn digits number names letterOf isMonthName monthIn monthOf fields readDate isLeap monthDays isCalendar
 samples a b c d e f g h i j k l = refl

@@ -1,10 +1,12 @@
 -- Document 01's marked samples: one table.
 use Prim.Native.Nat.{ℕ}
+use mathlib.Core.Bool.{Bool, true, false}
 use mathlib.Core.List.{List, [], _∷_}
 use Rattle.byte_rules.specs.Text.{bytes}
 use Rattle.records.specs.Answer.{Answer}
 use Rattle.byte_rules.specs.Reading.{rust}
 use Rattle.date.specs.Reading.{readAnswer}
+use Rattle.date.specs.Calendar.{isCalendar}
 use Rattle.parentheticals.specs.Records.{recordsOf}
 use Rattle.comment_parser.specs.Item.{span}
 use Rattle.comment_parser.specs.Events.{eventsOf}
@@ -14,6 +16,8 @@ use Rattle.comment_parser.specs.declared.CommentItem.the-variants.{Text, LineBr
 -- a row: what is read, and what document 01 says that it gives
 pub data Row : Type 0 where
   date : List ℕ → Answer → Row
+  -- whether year, month and day are a date of the calendar
+  calendar : ℕ → ℕ → ℕ → Bool → Row
   -- the events of the span from a to b of a buffer
   events : List ℕ → ℕ → ℕ → List CommentItem → Row
   -- the records of the parentheticals of the span from a to b of a buffer
@@ -22,6 +26,7 @@ pub data Row : Type 0 where
 -- the row with what the definitions give
 abbrev pub computed : Row → Row
 computed (date text answer) = date text (readAnswer text)
+computed (calendar y m d is) = calendar y m d (isCalendar (record { year = y; month = m; day = d }))
 computed (events buf a b items) = events buf a b (eventsOf rust buf a b)
 computed (credits buf a b records) = credits buf a b (recordsOf rust buf a b)
 
@@ -38,6 +43,17 @@ table a b c d e f g h i j k l =
     -- 9 bytes, 12 bytes
     ∷ date (a ∷ b ∷ c ∷ d ∷ e ∷ f ∷ g ∷ h ∷ i ∷ []) (gives 5 [])
     ∷ date (a ∷ b ∷ c ∷ d ∷ e ∷ f ∷ g ∷ h ∷ i ∷ j ∷ k ∷ l ∷ []) (gives 5 [])
+    -- read, though the calendar has no such day
+    ∷ date (bytes "29-Feb-1900") (gives 0 (1900 ∷ 2 ∷ 29 ∷ []))
+    -- February has 28 days in 1900 and 2100, and 29 in 2000 and in year 0
+    ∷ calendar 1900 2 28 true
+    ∷ calendar 1900 2 29 false
+    ∷ calendar 2100 2 28 true
+    ∷ calendar 2100 2 29 false
+    ∷ calendar 2000 2 29 true
+    ∷ calendar 2000 2 30 false
+    ∷ calendar 0 2 29 true
+    ∷ calendar 0 2 30 false
     -- comments, whole
     ∷ events [] 0 0 []
     ∷ events (bytes "[]") 0 2 (BibTag (span 1 1) ∷ [])
