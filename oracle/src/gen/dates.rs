@@ -14,7 +14,7 @@ fn bytes_case(op: u8, text: &[u8]) -> Case {
 pub fn read(plan: &Plan, sink: &mut Sink) {
     for day in 0..=99 {
         for month in MONTHS {
-            for year in ["0000", "0004", "1900", "1999", "2000", "2020", "2023", "9999"] {
+            for year in ["0000", "0004", "1900", "1999", "2000", "2020", "2023", "2100", "9999"] {
                 sink.put(&bytes_case(b'D', format!("{day}-{month}-{year}").as_bytes()));
             }
         }
@@ -71,10 +71,11 @@ pub fn read_mutated(_: &Plan, sink: &mut Sink) {
     }
 }
 
-/// Every month and day there is, for years of each kind.
+/// Every month and day there is, for years of each kind; in the long run for every year that a date is read with.
 pub fn calendar(plan: &Plan, sink: &mut Sink) {
-    let few = [0, 1, 2, 3, 4, 100, 1900, 1999, 2000, 2020, 2100, 9999, 10_000, 65_532, 65_535];
-    let many: Vec<u32> = (0..=400).chain(few).collect();
+    let few =
+        [0, 1, 2, 3, 4, 100, 400, 1900, 1999, 2000, 2020, 2100, 9999, 10_000, 10_100, 65_200, 65_500, 65_532, 65_535];
+    let many: Vec<u32> = (0..=9_999).chain(few).collect();
     for &a in if plan.long { &many[..] } else { &few[..] } {
         for b in (0..=14).chain([128, 255]) {
             for c in (0..=40).chain([127, 128, 255]) {
