@@ -1,13 +1,15 @@
--- Laws about no byte and no rule: what cannot be, a choice by its arms, and the part of a text from a place on.
+-- Laws about no byte and no rule: what cannot be, a choice by its arms, two of which neither is there, and the part of a text from a place on.
 -- Assumes nothing.
 use Prim.Native.Nat.{ℕ, _-_}
 use mathlib.Core.Path.{_≡_, refl}
 use mathlib.Core.Bool.{Bool, true, false, _&&_}
 use mathlib.Core.List.{List}
+use mathlib.Core.Option.{Option, none, some}
 use native.Mathlib.Nat.{le-refl}
 use native.Mathlib.Omega.{arith}
 use lib.ListN.{length, take, drop, length-drop}
 use lib.Seq.{take-all}
+use Rattle.basics.specs.Choice.{orElse}
 use Rattle.basics.specs.declared.Place.{Place}
 use Rattle.basics.specs.declared.Place.the-variants.{At, Nowhere}
 
@@ -31,6 +33,11 @@ by-test P false f g = g refl
 pub by-place : {A : Type 0} (P : A → Type 0) (c : Place) {x : ℕ → A} {y : A} → ((q : ℕ) → c ≡ At q → P (x q)) → (c ≡ Nowhere → P y) → P (elim c [ At q ↦ x q | Nowhere ↦ y ])
 by-place P (At q) f g = f q refl
 by-place P Nowhere f g = g refl
+
+-- where the first of two that is there is missing, both are
+pub both-none : {A : Type 0} (a b : Option A) → none ≡ orElse a b → (none ≡ a) × (none ≡ b)
+both-none none b h = (refl, h)
+both-none (some a) b h = absurd (differ cc)
 
 -- the part of a text from i on, as the code makes it
 pub rest-is : {A : Type 0} (s : List A) (i : ℕ) → take (length s - i) (drop i s) ≡ drop i s

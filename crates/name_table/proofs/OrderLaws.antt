@@ -62,6 +62,12 @@ order-flip (x ∷ xs) (y ∷ ys) = go (heads x y) (order-flip xs ys)
     go (equal h) ih = order-equal ys xs (sym h) ∙ ih ∙ sym (ap flip (order-equal xs ys h))
     go (higher h) ih = order-lower ys xs h ∙ sym (ap flip (order-higher xs ys h))
 
+-- no name is less than the empty one
+pub nothing-less : (a : List ℕ) → orderOf a [] ≡ Less → ⊥
+unfolding orderOf
+nothing-less [] e = differ cc
+nothing-less (x ∷ xs) e = differ cc
+
 -- names are the same exactly if they are equal
 pub order-refl : (a : List ℕ) → orderOf a a ≡ Same
 unfolding orderOf

@@ -204,7 +204,7 @@ module _ (bytes ends name : List ℕ) where
         go k l (no s) = ap isSame (b .above k (omega arith) l)
 
     -- the middle name is the one sought, and no name before it is
-    just-here : (mid : ℕ) → mid < length ends → Stands mid Same → entryOf bytes ends name ≡ At mid
+    pub just-here : (mid : ℕ) → mid < length ends → Stands mid Same → entryOf bytes ends name ≡ At mid
     unfolding entryOf
     just-here mid h e =
         let is : nameAt bytes ends mid ≡ name = order-same _ _ e in

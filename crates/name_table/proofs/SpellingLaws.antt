@@ -1,12 +1,12 @@
--- Laws of a name that a text spells, for either spelling, and of its comparison with a name, byte by byte.
+-- Laws of a name that a text spells, for either spelling, of a text that spells itself, and of the comparison with a name, byte by byte.
 -- Assumes nothing.
 use Prim.Native.Nat.{ℕ, _+_, _≤_, _<_}
-use mathlib.Core.Path.{_≡_, _∙_}
-use mathlib.Core.List.{List, [], _∷_}
+use mathlib.Core.Path.{_≡_, sym, ap, _∙_}
+use mathlib.Core.List.{List, [], _∷_, _++_, append-assoc, append-nil}
 use native.Mathlib.Numerals.{add-one}
 use native.Mathlib.Omega.{arith}
-use lib.ListN.{length, drop, getD, drop-of-length-le}
-use lib.Seq.{drop-cons}
+use lib.ListN.{length, take, drop, getD, drop-of-length-le}
+use lib.Seq.{drop-cons, take-all, take-suc}
 use Rattle.unescape.specs.Unescape.{isEscape}
 use Rattle.unescape.proofs.Laws as unescape
 use Rattle.name_table.specs.Order.{orderOf}
@@ -36,6 +36,22 @@ pub step-within : (how : Spelling) (s : List ℕ) (i : ℕ) → i < length s →
 unfolding stepOf
 step-within Plain s i h = omega arith
 step-within (Escaped kind) s i h = unescape.step-within (isEscape kind) s i h
+
+-- up to place i the text spells itself
+abbrev pub PlainTo : Spelling → List ℕ → ℕ → Type 0
+PlainTo how s i = take i s ++ spelled how (drop i s) ≡ spelled how s
+
+pub plain-on : (how : Spelling) (s : List ℕ) (i : ℕ) → i < length s → stepOf how s i ≤ 1 → PlainTo how s i → PlainTo how s (i + 1)
+plain-on how s i h few p =
+    let one : stepOf how s i ≡ 1 = omega (arith, step-some how s i) in
+    let next = spelled-step how s i h ∙ ap (λ (n : ℕ). getD s i 0 ∷ spelled how (drop (i + n) s)) one in
+    let front : take (i + 1) s ≡ take i s ++ (getD s i 0 ∷ []) = rw add-one (take-suc s i 0 h) in
+    let behind = ap (λ (l : List ℕ). take i s ++ l) (sym next) ∙ p in
+    rw (front, append-assoc) behind
+
+pub plain-ends : (how : Spelling) (s : List ℕ) (i : ℕ) → length s ≤ i → PlainTo how s i → spelled Plain s ≡ spelled how s
+unfolding spelled
+plain-ends how s i h p = rw (take-all i s h, spelled-end how s i h, append-nil) at p
 
 -- a name from place k on, and the spelled one from place i on
 module _ (name : List ℕ) (how : Spelling) (text : List ℕ) (k i : ℕ) where

@@ -14,9 +14,7 @@ use borrow.Author.Tests.{eq-eqb, ne-eqb}
 use Rattle.unescape.specs.Unescape.{part}
 use Rattle.name_table.specs.Order.{orderOf, isLess}
 use Rattle.name_table.specs.Table.{endOf, startOf, nameAt, notGreater, badAt, badFrom, firstBad}
-use Rattle.name_table.specs.Spelling.{spelled}
 use Rattle.name_table.specs.declared.Order.{Order}
-use Rattle.name_table.specs.declared.Spelling.the-variants.{Plain}
 use Rattle.name_table.specs.declared.Entry.the-variants.{At, Nothing}
 
 -- past the last entry there is no end
@@ -67,9 +65,8 @@ module _ (bytes ends : List ℕ) (i : ℕ) where
       go (suc j) k = let e : suc j - 1 ≡ j = omega arith in rw e
 
   -- by the comparison of the two names
-  pub greater-by : (i ≡ 0 → ⊥) → (a b : List ℕ) → a ≡ nameAt bytes ends (i - 1) → b ≡ nameAt bytes ends i → (r o : Order) → r ≡ orderOf a (spelled Plain b) → r ≡ o
+  pub greater-by : (i ≡ 0 → ⊥) → (a b : List ℕ) → a ≡ nameAt bytes ends (i - 1) → b ≡ nameAt bytes ends i → (r o : Order) → r ≡ orderOf a b → r ≡ o
       → not (isLess o) ≡ notGreater bytes ends i
-  unfolding spelled
   greater-by h a b ea eb r o er eo = rw (← eo, er, ea, eb) (greater-is h)
 
   -- the check of the n entries, at i

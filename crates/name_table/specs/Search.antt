@@ -11,9 +11,14 @@ use Rattle.name_table.specs.declared.Entry.the-variants.{At, Nothing}
 use Rattle.name_table.specs.declared.Order.{Order}
 use Rattle.name_table.specs.declared.Order.the-variants.{Less, Same, More}
 
-abbrev pub isEntry : Entry → Bool
-isEntry (At i) = true
-isEntry Nothing = false
+-- a way to look names up: a name's entry, or none
+abbrev pub Lookup : Type 0
+Lookup = List ℕ → Entry
+
+-- no entry has the name
+abbrev pub isMissing : Entry → Bool
+isMissing (At i) = false
+isMissing Nothing = true
 
 -- where to look next: after a lesser name, here, or before a greater one
 abbrev pub turned : {A : Type 0} → Order → A → A → A → A
@@ -34,10 +39,6 @@ module _ (bytes ends name : List ℕ) where
   -- a plain walk over the table
   unfoldable pub entryOf : Entry
   entryOf = entryFrom (length ends) 0
-
-  -- the name is in the table
-  abbrev pub isIn : Bool
-  isIn = isEntry entryOf
 
   -- the entry that halving finds from lo up to hi, in at most so many turns
   unfoldable pub halved : ℕ → ℕ → ℕ → Entry

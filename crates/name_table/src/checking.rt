@@ -1,8 +1,7 @@
 // A table's entries, and the check of a table.
 use crate::Entry;
 use crate::Order;
-use crate::Spelling;
-use crate::ordering::compare;
+use crate::ordering::order_of;
 use basics::least;
 use records::Checked;
 use records::Refusal;
@@ -42,7 +41,7 @@ fn not_greater(bytes: &[u8], ends: &[u32], i: usize) -> bool
     }
     let before = name_at(bytes, ends, i - 1);
     let name = name_at(bytes, ends, i);
-    match compare(before, Spelling::Plain, name) {
+    match order_of(before, name) {
         Order::Less => false,
         Order::Same => true,
         Order::More => true,

@@ -6,7 +6,6 @@ mod searching;
 pub use checking::check_table;
 use records::Checked;
 use records::Refusal;
-pub use searching::has_name;
 pub use searching::search;
 use unescape::Escape;
 ghost use mathlib.Core.Path.{_≡_};
@@ -31,10 +30,10 @@ pub enum Entry {
     Nothing,
 }
 
-// Whether a name is in a table that is lent alone, or that table's refusal.
+// The number of a name's entry in a table that is lent alone, or that it is not there, or that table's refusal.
 pub enum Known {
-    Yes,
-    No,
+    At(usize),
+    Nothing,
     Refused(Refusal),
 }
 
@@ -45,9 +44,8 @@ pub fn lookup(bytes: &[u8], ends: &[u32], name: &[u8]) -> Known
     if let Checked::Refused(why) = check_table(1, bytes, ends) {
         return Known::Refused(why);
     }
-    if has_name(bytes, ends, Spelling::Plain, name) {
-        Known::Yes
-    } else {
-        Known::No
+    match search(bytes, ends, Spelling::Plain, name) {
+        Entry::At(entry) => Known::At(entry),
+        Entry::Nothing => Known::Nothing,
     }
 }

@@ -1,15 +1,14 @@
--- `name_table::lookup` meets its contract: a table that is not refused is good, and over a good table the search is membership.
+-- `name_table::lookup` meets its contract: a table that is not refused is good, and over a good table the search finds what the walk finds.
 -- Assumes nothing.
 use Prim.Native.Nat.{ℕ}
 use mathlib.Core.Path.{_≡_, sym, _∙_}
-use mathlib.Core.Bool.{Bool, true, false, cond}
 use mathlib.Core.List.{List}
 use mathlib.Core.Option.{none}
-use Rattle.records.specs.Answer.{done}
 use Rattle.name_table.specs.Spelling.{spelled}
 use Rattle.name_table.specs.Table.{tableRefusal}
-use Rattle.name_table.specs.Search.{isEntry, searched}
-use Rattle.name_table.specs.Lookup.{lookupAnswer}
+use Rattle.name_table.specs.Search.{searched}
+use Rattle.name_table.specs.Lookup.{entryAnswer, lookupAnswer}
+use Rattle.name_table.specs.declared.Entry.{Entry}
 use Rattle.name_table.specs.declared.Spelling.the-variants.{Plain}
 use Rattle.name_table.proofs.Laws.{searched-good}
 use borrow.Author.Needs.{needs}
@@ -25,23 +24,38 @@ enum-known-why c = search needs
 returns : tie.Need-returns
 returns c = rw (← c .before .before .before .check-table .ensures, c .before .why .given .1)
 
--- the answer over a table that is not refused
-told : (bytes ends name : List ℕ) → none ≡ tableRefusal 1 bytes ends → (b : Bool) → b ≡ isEntry (searched bytes ends (spelled Plain name))
-    → done (cond b 1 0) ≡ lookupAnswer bytes ends name
+-- the answer over a table that is not refused, by what the search found
+told : (bytes ends name : List ℕ) → none ≡ tableRefusal 1 bytes ends → (e : Entry) → e ≡ searched bytes ends (spelled Plain name)
+    → entryAnswer e ≡ lookupAnswer bytes ends name
 unfolding spelled
-told bytes ends name good b e = rw (e, searched-good bytes ends name 1 good, ← good)
+told bytes ends name good e is = rw (is, searched-good bytes ends 1 good name, ← good)
 
 enum-told : tie.Need-enum-told
 enum-told c = search needs
 
-has-name-requires : tie.Need-has-name-requires
-has-name-requires c κs = search needs
+-- the table is not refused
+good : (c : tie.After-enum-told)
+    → let a = c .before .before .before .before .before .before .args in none ≡ tableRefusal 1 (a .bytes .now) (a .ends .now)
+good c = rw (c .enum-told .given .1) at (c .before .before .check-table .ensures)
+
+search-requires : tie.Need-search-requires
+search-requires c κs = search needs
+
+enum-known-entry : tie.Need-enum-known-entry
+enum-known-entry c = search needs
+
+enum-told-2 : tie.Need-enum-told-2
+enum-told-2 c = search needs
 
 returns-2 : tie.Need-returns-2
-returns-2 c = told _ _ _ (rw (c .before .before .enum-told .given .1) at (c .before .before .before .before .check-table .ensures)) true (sym (c .if1 .taken) ∙ c .before .has-name .ensures)
+returns-2 c =
+    let s = c .before .before .before in
+    told _ _ _ (good (s .before)) _ (sym (c .before .entry .given .1) ∙ s .search .ensures)
 
 returns-3 : tie.Need-returns-3
-returns-3 c = told _ _ _ (rw (c .before .before .enum-told .given .1) at (c .before .before .before .before .check-table .ensures)) false (sym (c .if1 .left) ∙ c .before .has-name .ensures)
+returns-3 c =
+    let s = c .before .before in
+    told _ _ _ (good (s .before)) _ (sym (c .enum-told2 .given .1) ∙ s .search .ensures)
 
 pub lookup-spec : {M : Type 1} → statement M
 lookup-spec =
@@ -51,6 +65,8 @@ lookup-spec =
     enum-known-why
     returns
     enum-told
-    has-name-requires
+    search-requires
+    enum-known-entry
+    enum-told-2
     returns-2
     returns-3)

@@ -18,8 +18,8 @@ name-at-requires c κs = search needs
 name-at-requires-2 : tie.Need-name-at-requires-2
 name-at-requires-2 c κs = search needs
 
-compare-requires : tie.Need-compare-requires
-compare-requires c κs = search needs
+order-of-requires : tie.Need-order-of-requires
+order-of-requires c κs = search needs
 
 enum-told : tie.Need-enum-told
 enum-told c = search needs
@@ -34,19 +34,19 @@ returns-2 : tie.Need-returns-2
 returns-2 c =
     let o = c .before .before in
     let n = o .before in
-    greater-by _ _ _ (n .before .before .if1 .left) _ _ (n .before .name-at .ensures) (n .name-at2 .ensures) _ Less (o .compare .ensures) (c .enum-told .given .1)
+    greater-by _ _ _ (n .before .before .if1 .left) _ _ (n .before .name-at .ensures) (n .name-at2 .ensures) _ Less (o .order-of .ensures) (c .enum-told .given .1)
 
 returns-3 : tie.Need-returns-3
 returns-3 c =
     let o = c .before .before in
     let n = o .before in
-    greater-by _ _ _ (n .before .before .if1 .left) _ _ (n .before .name-at .ensures) (n .name-at2 .ensures) _ Same (o .compare .ensures) (c .enum-told2 .given .1)
+    greater-by _ _ _ (n .before .before .if1 .left) _ _ (n .before .name-at .ensures) (n .name-at2 .ensures) _ Same (o .order-of .ensures) (c .enum-told2 .given .1)
 
 returns-4 : tie.Need-returns-4
 returns-4 c =
     let o = c .before .before in
     let n = o .before in
-    greater-by _ _ _ (n .before .before .if1 .left) _ _ (n .before .name-at .ensures) (n .name-at2 .ensures) _ More (o .compare .ensures) (c .enum-told3 .given .1)
+    greater-by _ _ _ (n .before .before .if1 .left) _ _ (n .before .name-at .ensures) (n .name-at2 .ensures) _ More (o .order-of .ensures) (c .enum-told3 .given .1)
 
 pub not-greater-spec : {M : Type 1} → statement M
 not-greater-spec =
@@ -56,7 +56,7 @@ not-greater-spec =
     sub-name-at
     name-at-requires
     name-at-requires-2
-    compare-requires
+    order-of-requires
     enum-told
     enum-told-2
     enum-told-3

@@ -1,7 +1,7 @@
 -- `name_table::searching::search` meets its contract. The loop's invariant: halving from lo up to hi finds what it finds in the whole table.
 -- Assumes nothing.
 use Prim.Native.Nat.{_-_, _≤_}
-use mathlib.Core.Path.{_≡_, sym, _∙_}
+use mathlib.Core.Path.{_≡_, sym, ap, _∙_}
 use native.Mathlib.Omega.{arith}
 use lib.ListN.{length}
 use Rattle.name_table.specs.Order.{orderOf}
@@ -14,10 +14,19 @@ use Rattle.name_table.proofs.searching.search.Statement.{statement}
 use Rattle.name_table.proofs.searching.search.Tie as tie
 
 abbrev Inv-loop : tie.InvT-loop
-Inv-loop bytes ends how text lo₀ hi₀ lo hi = (hi ≤ length ends) × (halved bytes ends (spelled how text) (hi - lo) lo hi ≡ searched bytes ends (spelled how text))
+Inv-loop bytes ends text how lo₀ hi₀ lo hi = (hi ≤ length ends) × (halved bytes ends (spelled how text) (hi - lo) lo hi ≡ searched bytes ends (spelled how text))
 
 abbrev μ-loop : tie.MeasureT-loop
-μ-loop bytes ends how text lo₀ hi₀ lo hi = hi - lo
+μ-loop bytes ends text how lo₀ hi₀ lo hi = hi - lo
+
+plainly-requires : tie.Need-plainly-requires Inv-loop μ-loop
+plainly-requires c κs = search needs
+
+-- the name as it is spelled from here on is the one sought
+same : (c : tie.After-plainly Inv-loop μ-loop)
+    → let a = c .before .before .before .before .args in
+    searched (a .bytes .now) (a .ends .now) (spelled (c .plainly .result) (a .text .now)) ≡ searched (a .bytes .now) (a .ends .now) (spelled (a .how) (a .text .now))
+same c = let a = c .before .before .before .before .args in ap (searched (a .bytes .now) (a .ends .now)) (c .plainly .ensures)
 
 loop-holds : tie.Need-loop-holds Inv-loop μ-loop
 loop-holds c = (omega arith, search-starts _ _ _)
@@ -46,8 +55,9 @@ loop-less c = search needs
 -- how the middle name stands to the one sought
 looked : (c : tie.After-compare Inv-loop μ-loop)
     → let l = c .before .before .before .loop in
-    let a = c .before .before .before .before .before .before .before .args in
-    orderOf (nameAt (a .bytes .now) (a .ends .now) (middle (l .lo) (l .hi))) (spelled (a .how) (a .text .now)) ≡ c .compare .result
+    let p = c .before .before .before .before in
+    let a = p .before .before .before .before .args in
+    orderOf (nameAt (a .bytes .now) (a .ends .now) (middle (l .lo) (l .hi))) (spelled (p .plainly .result) (a .text .now)) ≡ c .compare .result
 looked c = sym (c .compare .ensures ∙ rw (c .before .name-at .ensures))
 
 loop-again : tie.Need-loop-again Inv-loop μ-loop
@@ -63,7 +73,7 @@ returns : tie.Need-returns Inv-loop μ-loop
 returns c =
     let o = c .before .before in
     let t = o .before .before in
-    sym (search-here _ _ _ _ _ (t .loop-test .taken) (looked o ∙ c .enum-told2 .given .1)) ∙ t .before .loop .inv .1
+    sym (search-here _ _ _ _ _ (t .loop-test .taken) (looked o ∙ c .enum-told2 .given .1)) ∙ t .before .loop .inv .1 ∙ same (t .before .before)
 
 enum-told-3 : tie.Need-enum-told-3 Inv-loop μ-loop
 enum-told-3 c = search needs
@@ -78,7 +88,7 @@ loop-again-2 c =
     (omega arith, sym (search-down _ _ _ _ _ (t .loop-test .taken) (looked o ∙ c .enum-told3 .given .1)) ∙ t .before .loop .inv .1)
 
 returns-2 : tie.Need-returns-2 Inv-loop μ-loop
-returns-2 c = let l = c .before .loop in sym (search-over _ _ _ (l .lo) (l .hi) (c .loop-test .left)) ∙ l .inv .1
+returns-2 c = let l = c .before .loop in sym (search-over _ _ _ (l .lo) (l .hi) (c .loop-test .left)) ∙ l .inv .1 ∙ same (c .before .before)
 
 pub search-spec : {M : Type 1} → statement M
 search-spec =
@@ -86,6 +96,7 @@ search-spec =
     (tie.spec
     Inv-loop
     μ-loop
+    plainly-requires
     loop-holds
     sub-mid
     add-mid
