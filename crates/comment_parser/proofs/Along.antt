@@ -6,7 +6,7 @@ use mathlib.Core.Logic.{inl, inr}
 use mathlib.Core.List.{List, [], _∷_}
 use mathlib.Core.Option.{none, some}
 use native.Mathlib.Omega.{arith}
-use lib.ListN.{take}
+use lib.ListN.{length, take}
 use types.Run.{OneOf}
 use denote.Enum.Declared.{tagOf}
 use Rattle.records.specs.Answer.{longest}
@@ -54,7 +54,7 @@ module _ {buf : List ℕ} {st : ParserState} {note : Note} {r : NextNoted} (a : 
   pub along-end : OneOf (1 ∷ 2 ∷ []) (tagOf the-type (r .next)) → seen rust buf st ≡ none
   along-end k = along-seen (r .next) refl ∙ no-event (r .next) k
 
-  -- an event: it is seen, less is to come, its numbers fit a word, and the way goes on from the state after it
+  -- an event: it is seen, less is to come, its numbers fit a word, it lies in the buffer, and the way goes on from the state after it
   module _ {i : CommentItem} {t : ParserState} (e : r .next ≡ Event t i) where
     pub along-event : seen rust buf st ≡ some (i, t)
     along-event = along-seen (Event t i) e
@@ -69,6 +69,11 @@ module _ {buf : List ℕ} {st : ParserState} {note : Note} {r : NextNoted} (a : 
     along-within =
         let k = stays-accepted rust buf st (i, t) along-event in
         record { above = omega arith; placed = lies .within .placed; ordered = lies .within .ordered; below = omega (arith, lies .within .below, k) }
+
+    pub along-inside : Within 0 (length buf) (placedOf i)
+    along-inside =
+        let k = stays-accepted rust buf st (i, t) along-event in
+        record { above = omega arith; placed = lies .within .placed; ordered = lies .within .ordered; below = omega (arith, lies .within .below, k .inside, k .fits) }
 
     pub along-on : Along buf t (r .note)
     along-on = record { reached = lies .reached; noted = rw (along-less .same-end) (says .reads (a .noted) .holds) }

@@ -1,4 +1,4 @@
--- Laws of the check: its refusals, and that over tables that are not refused the search is membership.
+-- Laws of the check: its refusals, and that over tables that are not refused the search finds what the walk finds.
 -- Assumes nothing.
 use Prim.Native.Nat.{ℕ, _*_, _≤_, _<_}
 use mathlib.Core.Path.{_≡_, refl, ap, fun-ext}
@@ -6,17 +6,15 @@ use mathlib.Core.List.{List}
 use mathlib.Core.Option.{Option, none, some}
 use lib.ListN.{length}
 use borrow.Author.Tests.{le-leb, lt-leb}
-use Rattle.basics.specs.Choice.{orElse}
-use Rattle.basics.proofs.Laws.{differ}
+use Rattle.basics.proofs.Laws.{both-none}
 use Rattle.records.specs.Answer.{Answer, done, short, spanRefusal}
 use Rattle.records.specs.Records.{laid, listAnswer, listLeft}
 use Rattle.records.proofs.Laying.{Given}
-use Rattle.name_table.specs.Search.{isEntry, isIn}
+use Rattle.name_table.specs.Search.{entryOf, searched}
 use Rattle.name_table.proofs.Laws.{searched-good}
 use Rattle.verify_markup.specs.Diag.{diagWidth}
 use Rattle.verify_markup.specs.Items.{lookedUp}
 use Rattle.verify_markup.specs.Check.{Table, Bibliography, lent, notLent, Tables, refusalOf, bibliographyRefusal, tablesRefusal, checkRefusal, tagsOf, namesBy}
-use Rattle.verify_markup.specs.Lent.{found}
 
 -- ---- refusals
 
@@ -47,27 +45,23 @@ module _ (t : Tables) where
 
 -- ---- good tables
 
-both-none : (a b : Option Answer) → none ≡ orElse a b → (none ≡ a) × (none ≡ b)
-both-none none b h = (refl, h)
-both-none (some a) b h = absurd (differ cc)
+table-good : (number : ℕ) (t : Table) → none ≡ refusalOf number t → searched (t .bytes) (t .ends) ≡ entryOf (t .bytes) (t .ends)
+table-good number t h = fun-ext (searched-good (t .bytes) (t .ends) number h)
 
-found-good : (number : ℕ) (t : Table) → none ≡ refusalOf number t → found (t .bytes) (t .ends) ≡ isIn (t .bytes) (t .ends)
-found-good number t h = fun-ext (λ name. ap isEntry (searched-good (t .bytes) (t .ends) name number h))
-
-tags-good : (b : Bibliography) → none ≡ bibliographyRefusal b → tagsOf found b ≡ tagsOf isIn b
-tags-good (lent t) h = ap lookedUp (found-good 3 t h)
+tags-good : (b : Bibliography) → none ≡ bibliographyRefusal b → tagsOf searched b ≡ tagsOf entryOf b
+tags-good (lent t) h = ap lookedUp (table-good 3 t h)
 tags-good notLent h = refl
 
--- over good tables the search is membership
-pub names-good : (t : Tables) → none ≡ tablesRefusal t → namesBy found t ≡ namesBy isIn t
+-- over good tables every name is looked up as the walk does
+pub names-good : (t : Tables) → none ≡ tablesRefusal t → namesBy searched t ≡ namesBy entryOf t
 unfolding tablesRefusal
 names-good t h =
     let a = both-none (refusalOf 1 (t .symbols)) _ h in
     let b = both-none (refusalOf 2 (t .labels)) (bibliographyRefusal (t .bibliography)) (a .1) in
-    let p = found-good 1 (t .symbols) (a .0) in
-    let q = found-good 2 (t .labels) (b .0) in
+    let p = table-good 1 (t .symbols) (a .0) in
+    let q = table-good 2 (t .labels) (b .0) in
     let r = tags-good (t .bibliography) (b .1) in
-    λ i. record { isSymbol = p i; isLabel = q i; tags = r i }
+    λ i. record { symbol = p i; label = q i; tags = r i }
 
 -- ---- the answer, by the count and the room
 

@@ -2,7 +2,7 @@
 -- Assumes nothing.
 use Prim.Native.Nat.{ℕ, zero, suc, _+_, _-_, _≤_, _<_}
 use mathlib.Core.Path.{_≡_, refl}
-use mathlib.Core.Bool.{Bool, true, false, not, _||_}
+use mathlib.Core.Bool.{Bool, true, false, _||_}
 use mathlib.Core.List.{List, [], _++_}
 use native.Mathlib.Omega.{arith}
 use lib.Dec.{eqb}
@@ -11,6 +11,7 @@ use Rattle.look.specs.Look.{byteAt}
 use Rattle.scans.specs.Marks.{tick, tilde}
 use Rattle.unescape.specs.Unescape.{isEscape, unescaped, part}
 use Rattle.unescape.specs.declared.Escape.the-variants as escape
+use Rattle.name_table.specs.Search.{Lookup, isMissing}
 use Rattle.comment_parser.specs.Item.{placedOf}
 use Rattle.comment_parser.specs.declared.CommentItem.{CommentItem}
 use Rattle.comment_parser.specs.declared.CommentItem.the-variants.{Text, LineBreak, StartMathMode, EndMathMode, MathToken, Label, Url, StartHtml, EndHtml, StartSubscript, EndSubscript, StartItalic, EndItalic, BibTag}
@@ -38,23 +39,23 @@ module _ (buf : List ℕ) where
     unfolding tagDiags
     few-tag tags = few-append (few-escapes (e - a) a) (few-when (noTag tags (part buf a e)) _ refl)
 
-    pub few-token : (isSymbol : List ℕ → Bool) → Few 1 (tokenDiags buf isSymbol a e)
+    pub few-token : (symbol : Lookup) → Few 1 (tokenDiags buf symbol a e)
     unfolding tokenDiags
-    few-token isSymbol = few-when (not (isSymbol (unescaped (isEscape escape.Math) (part buf a e)))) _ refl
+    few-token symbol = few-when (isMissing (symbol (unescaped (isEscape escape.Math) (part buf a e)))) _ refl
 
     -- a label that is not empty, by what was found of its name
-    pub name-by : (isLabel : List ℕ → Bool) (i : ℕ) (unknown : Bool) → (a ≡ e → ⊥) → unknown ≡ not (isLabel (unescaped (isEscape escape.Label) (part buf a e)))
-        → nameDiags buf isLabel i a e ≡ when unknown (unknownLabel buf a e)
+    pub name-by : (label : Lookup) (i : ℕ) (unknown : Bool) → (a ≡ e → ⊥) → unknown ≡ isMissing (label (unescaped (isEscape escape.Label) (part buf a e)))
+        → nameDiags buf label i a e ≡ when unknown (unknownLabel buf a e)
     unfolding nameDiags
-    name-by isLabel i unknown h is = rw (nameDiags, ne-eqb a e h, is)
+    name-by label i unknown h is = rw (nameDiags, ne-eqb a e h, is)
 
-    pub few-name : (isLabel : List ℕ → Bool) (i : ℕ) → Few 1 (nameDiags buf isLabel i a e)
+    pub few-name : (label : Lookup) (i : ℕ) → Few 1 (nameDiags buf label i a e)
     unfolding nameDiags
-    few-name isLabel i = go (eqb a e) refl
+    few-name label i = go (eqb a e) refl
       where
-        go : (b : Bool) → eqb a e ≡ b → Few 1 (nameDiags buf isLabel i a e)
+        go : (b : Bool) → eqb a e ≡ b → Few 1 (nameDiags buf label i a e)
         go true x = rw (nameDiags, x) (few-when true _ refl)
-        go false x = rw (nameDiags, x) (few-when (not (isLabel (unescaped (isEscape escape.Label) (part buf a e)))) _ refl)
+        go false x = rw (nameDiags, x) (few-when (isMissing (label (unescaped (isEscape escape.Label) (part buf a e)))) _ refl)
 
   module _ (i : ℕ) where
     pub few-before : Few 1 (spaceBefore buf i)
@@ -71,9 +72,9 @@ module _ (buf : List ℕ) where
     unfolding linkDiags
     few-link a e = few-append few-tilde (few-written buf a e escape.Label)
 
-    pub few-label : (isLabel : List ℕ → Bool) (a e : ℕ) → Few (2 + (e - a + 1) + 1) (labelDiags buf isLabel i a e)
+    pub few-label : (label : Lookup) (a e : ℕ) → Few (2 + (e - a + 1) + 1) (labelDiags buf label i a e)
     unfolding labelDiags
-    few-label isLabel a e = few-append (few-link a e) (few-name a e isLabel i)
+    few-label label a e = few-append (few-link a e) (few-name a e label i)
 
   -- an event gives at most four records more than its text has bytes
   pub few-item : (n : Names) (html : Bool) (i : CommentItem) → Few (4 + (placedOf i .end - placedOf i .start)) (itemDiags buf n html i)
@@ -81,8 +82,8 @@ module _ (buf : List ℕ) where
   few-item n html (LineBreak i) = few-none _
   few-item n html (StartMathMode i) = few-more (omega arith) (few-after i)
   few-item n html (EndMathMode i) = few-more (omega arith) (few-before i)
-  few-item n html (MathToken s) = few-more (omega arith) (few-token (s .start) (s .end) (n .isSymbol))
-  few-item n html (Label i s) = few-more (omega arith) (few-label i (n .isLabel) (s .start) (s .end))
+  few-item n html (MathToken s) = few-more (omega arith) (few-token (s .start) (s .end) (n .symbol))
+  few-item n html (Label i s) = few-more (omega arith) (few-label i (n .label) (s .start) (s .end))
   few-item n html (Url i s) = few-more (omega arith) (few-link i (s .start) (s .end))
   few-item n html (StartHtml i) = few-none _
   few-item n html (EndHtml i) = few-none _

@@ -18,7 +18,6 @@ use Rattle.records.specs.Records.{laid}
 use Rattle.records.specs.declared.Wrote.{Wrote}
 use Rattle.records.proofs.Laying.{Laying, tail, back, laying-starts, laying-wrote, all-counted, all-laid}
 use Rattle.comment_parser.specs.Item.{placedOf}
-use Rattle.comment_parser.specs.Bounds.{Within}
 use Rattle.comment_parser.specs.State.{fresh}
 use Rattle.comment_parser.specs.Events.{left, seen, eventsFrom, eventsOf}
 use Rattle.comment_parser.specs.Notes.{NextBy}
@@ -28,8 +27,7 @@ use Rattle.comment_parser.specs.declared.Next.the-variants.{Event}
 use Rattle.comment_parser.specs.declared.NextNoted.{NextNoted}
 use Rattle.comment_parser.specs.declared.ParserState.{ParserState}
 use Rattle.comment_parser.proofs.CommentItem.{the-type}
-use Rattle.comment_parser.proofs.Events.{events-on, events-end, stays-accepted}
-use Rattle.comment_parser.proofs.Reached.{seen-lies}
+use Rattle.comment_parser.proofs.Events.{events-on, events-end}
 use Rattle.comment_parser.proofs.InOrder.{given, seen-in-order, given-le}
 use Rattle.comment_parser.proofs.Along.{Along, along-starts, along-event, along-less, along-within, along-on}
 use Rattle.verify_markup.specs.Diag.{diagWidth, unclosedMathMarkup, unclosedHtml}
@@ -174,15 +172,6 @@ module _ {n : Names} {buf : List ℕ} {start end : ℕ} {out₀ out : List ℕ} 
           laying = lies .1;
         },
       )
-
-  -- an event lies in the buffer
-  pub going-item : (r : NextNoted) → NextBy buf st note r
-      → (i : CommentItem) (t : ParserState) → r .next ≡ Event t i → Within 0 (length buf) (placedOf i)
-  going-item r says i t e =
-      let on = along-event (g .along) says e in
-      let lies = seen-lies rust buf st (i, t) on (g .along .reached) .within in
-      let next = stays-accepted rust buf st (i, t) on in
-      record { above = omega arith; placed = lies .placed; ordered = lies .ordered; below = omega (arith, lies .below, next .inside, next .fits) }
 
   -- the end: the last diagnostics are to come
   pub going-ends : seen rust buf st ≡ none → Laying diagWidth (diagnostics n buf start end) (lastDiags buf end m) out₀ out at k

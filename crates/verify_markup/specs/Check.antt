@@ -1,6 +1,5 @@
 -- The comment check: its refusals, and the names of its tables.
 use Prim.Native.Nat.{ℕ}
-use mathlib.Core.Bool.{Bool}
 use mathlib.Core.List.{List}
 use mathlib.Core.Option.{Option, none}
 use lib.ListN.{length}
@@ -8,7 +7,7 @@ use Rattle.basics.specs.Choice.{orElse}
 use Rattle.records.specs.Answer.{Answer, spanRefusal}
 use Rattle.records.specs.Records.{listAnswer, listLeft}
 use Rattle.name_table.specs.Table.{tableRefusal}
-use Rattle.name_table.specs.Search.{isIn}
+use Rattle.name_table.specs.Search.{Lookup, entryOf}
 use Rattle.verify_markup.specs.Diag.{diagWidth}
 use Rattle.verify_markup.specs.List.{diagnostics}
 use Rattle.verify_markup.specs.Items.{Tags, lookedUp, notLookedUp, Names}
@@ -44,20 +43,21 @@ unfoldable pub checkRefusal : List ℕ → ℕ → ℕ → Tables → Option Ans
 checkRefusal buf start end t = orElse (spanRefusal (length buf) start end) (tablesRefusal t)
 
 -- with a bibliography tags are looked up in it; with none they are not looked up
-abbrev pub tagsOf : (List ℕ → List ℕ → List ℕ → Bool) → Bibliography → Tags
-tagsOf has (lent t) = lookedUp (has (t .bytes) (t .ends))
-tagsOf has notLent = notLookedUp
+abbrev pub tagsOf : (List ℕ → List ℕ → Lookup) → Bibliography → Tags
+tagsOf look (lent t) = lookedUp (look (t .bytes) (t .ends))
+tagsOf look notLent = notLookedUp
 
--- the names of the tables, by a test of whether a table has a name
-abbrev pub namesBy : (List ℕ → List ℕ → List ℕ → Bool) → Tables → Names
-namesBy has t = record {
-  isSymbol = has (t .symbols .bytes) (t .symbols .ends);
-  isLabel = has (t .labels .bytes) (t .labels .ends);
-  tags = tagsOf has (t .bibliography);
+-- the names of the tables, by a way to look a name up in a table
+abbrev pub namesBy : (List ℕ → List ℕ → Lookup) → Tables → Names
+namesBy look t = record {
+  symbol = look (t .symbols .bytes) (t .symbols .ends);
+  label = look (t .labels .bytes) (t .labels .ends);
+  tags = tagsOf look (t .bibliography);
 }
 
+-- a name's entry is what the plain walk finds
 abbrev pub namesOf : Tables → Names
-namesOf = namesBy isIn
+namesOf = namesBy entryOf
 
 -- the tables by their bytes and ends
 abbrev pub table : List ℕ → List ℕ → Table

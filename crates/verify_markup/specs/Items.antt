@@ -1,37 +1,38 @@
 -- What each event gives (document 01, "Diagnostics").
 use Prim.Native.Nat.{ℕ, zero, suc, _+_, _-_}
-use mathlib.Core.Bool.{Bool, false, cond, not, _||_}
+use mathlib.Core.Bool.{Bool, false, cond, _||_}
 use mathlib.Core.List.{List, [], _∷_, _++_}
 use lib.Dec.{eqb}
 use Rattle.look.specs.Look.{byteAt}
 use Rattle.scans.specs.Marks.{tick, tilde}
 use Rattle.unescape.specs.Unescape.{isEscape, unescaped, part}
 use Rattle.unescape.specs.declared.Escape.the-variants as escape
+use Rattle.name_table.specs.Search.{Lookup, isMissing}
 use Rattle.comment_parser.specs.declared.CommentItem.{CommentItem}
 use Rattle.comment_parser.specs.declared.CommentItem.the-variants.{Text, LineBreak, StartMathMode, EndMathMode, MathToken, Label, Url}
 use Rattle.comment_parser.specs.declared.CommentItem.the-variants.{StartHtml, EndHtml, StartSubscript, EndSubscript, StartItalic, EndItalic, BibTag}
 use Rattle.verify_markup.specs.Diag.{when, spaceBefore, spaceAfter, undefinedToken, emptyLabel, unknownLabel, bibEscape, undefinedBibTag}
 use Rattle.verify_markup.specs.Texts.{written}
 
--- tags are looked up, by a test that tells which are known, or not looked up
+-- tags are looked up, or not looked up
 pub data Tags : Type 0 where
-  lookedUp : (List ℕ → Bool) → Tags
+  lookedUp : Lookup → Tags
   notLookedUp : Tags
 
 abbrev pub noTag : Tags → List ℕ → Bool
-noTag (lookedUp isTag) tag = not (isTag tag)
+noTag (lookedUp tagEntry) tag = isMissing (tagEntry tag)
 noTag notLookedUp tag = false
 
--- which tokens and labels are known, unescaped, and whether tags are looked up
+-- where tokens and labels stand, unescaped, and whether tags are looked up
 pub record Names : Type 0 where
-  pub isSymbol : List ℕ → Bool
-  pub isLabel : List ℕ → Bool
+  pub symbol : Lookup
+  pub label : Lookup
   pub tags : Tags
 
 module _ (buf : List ℕ) where
   -- 4 if it is no symbol
-  unfoldable pub tokenDiags : (List ℕ → Bool) → ℕ → ℕ → List (List ℕ)
-  tokenDiags isSymbol a e = when (not (isSymbol (unescaped (isEscape escape.Math) (part buf a e)))) (undefinedToken buf a e)
+  unfoldable pub tokenDiags : Lookup → ℕ → ℕ → List (List ℕ)
+  tokenDiags symbol a e = when (isMissing (symbol (unescaped (isEscape escape.Math) (part buf a e)))) (undefinedToken buf a e)
 
   -- 1 for the byte before the tilde, 1 for the byte after, then 2 at each lone escape, 3
   unfoldable pub tildeDiags : ℕ → List (List ℕ)
@@ -41,13 +42,13 @@ module _ (buf : List ℕ) where
   linkDiags i a e = tildeDiags i ++ written buf escape.Label a e
 
   -- 5 if empty, else 6 if not found
-  unfoldable pub nameDiags : (List ℕ → Bool) → ℕ → ℕ → ℕ → List (List ℕ)
-  nameDiags isLabel i a e =
+  unfoldable pub nameDiags : Lookup → ℕ → ℕ → ℕ → List (List ℕ)
+  nameDiags label i a e =
       cond (eqb a e) (emptyLabel buf i ∷ [])
-      (when (not (isLabel (unescaped (isEscape escape.Label) (part buf a e)))) (unknownLabel buf a e))
+      (when (isMissing (label (unescaped (isEscape escape.Label) (part buf a e)))) (unknownLabel buf a e))
 
-  unfoldable pub labelDiags : (List ℕ → Bool) → ℕ → ℕ → ℕ → List (List ℕ)
-  labelDiags isLabel i a e = linkDiags i a e ++ nameDiags isLabel i a e
+  unfoldable pub labelDiags : Lookup → ℕ → ℕ → ℕ → List (List ℕ)
+  labelDiags label i a e = linkDiags i a e ++ nameDiags label i a e
 
   -- 7 at each backtick or `~` of the `left` bytes from i on of the tag from a to e
   unfoldable pub bibEscapes : ℕ → ℕ → ℕ → ℕ → List (List ℕ)
@@ -64,8 +65,8 @@ module _ (buf : List ℕ) where
   itemDiags n html (LineBreak i) = []
   itemDiags n html (StartMathMode i) = spaceAfter buf i
   itemDiags n html (EndMathMode i) = spaceBefore buf i
-  itemDiags n html (MathToken s) = tokenDiags (n .isSymbol) (s .start) (s .end)
-  itemDiags n html (Label i s) = labelDiags (n .isLabel) i (s .start) (s .end)
+  itemDiags n html (MathToken s) = tokenDiags (n .symbol) (s .start) (s .end)
+  itemDiags n html (Label i s) = labelDiags (n .label) i (s .start) (s .end)
   itemDiags n html (Url i s) = linkDiags i (s .start) (s .end)
   itemDiags n html (StartHtml i) = []
   itemDiags n html (EndHtml i) = []

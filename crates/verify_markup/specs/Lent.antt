@@ -1,17 +1,12 @@
 -- What contracts of private functions of this crate speak of: the tables as the code is lent them, and the names that its search finds.
 -- No contract of a public call speaks of them.
 use Prim.Native.Nat.{ℕ}
-use mathlib.Core.Bool.{Bool}
 use mathlib.Core.List.{List}
-use Rattle.name_table.specs.Search.{isEntry, searched}
+use Rattle.name_table.specs.Search.{searched}
 use Rattle.verify_markup.specs.Items.{Tags, Names}
 use Rattle.verify_markup.specs.Check.{Bibliography, lent, notLent, Tables, table, tables, tagsOf, namesBy}
 use Rattle.verify_markup.specs.declared.TagLookup.{TagLookup}
 use Rattle.verify_markup.specs.declared.TagLookup.the-variants.{LookedUp, NotLookedUp}
-
--- the test that the code makes: over good tables it is membership
-abbrev pub found : List ℕ → List ℕ → List ℕ → Bool
-found bytes ends name = isEntry (searched bytes ends name)
 
 -- the third table is looked at only where tags are looked up
 abbrev pub bibliographyOf : TagLookup → List ℕ → List ℕ → Bibliography
@@ -21,9 +16,9 @@ bibliographyOf NotLookedUp bytes ends = notLent
 abbrev pub lentTables : List ℕ → List ℕ → List ℕ → List ℕ → TagLookup → List ℕ → List ℕ → Tables
 lentTables sb se lb le tags bb be = tables sb se lb le (bibliographyOf tags bb be)
 
--- the names that are found in them
+-- the names as the code looks them up: by halving, which over good tables finds what the walk finds
 abbrev pub lentNames : List ℕ → List ℕ → List ℕ → List ℕ → TagLookup → List ℕ → List ℕ → Names
-lentNames sb se lb le tags bb be = namesBy found (lentTables sb se lb le tags bb be)
+lentNames sb se lb le tags bb be = namesBy searched (lentTables sb se lb le tags bb be)
 
 abbrev pub lentTags : TagLookup → List ℕ → List ℕ → Tags
-lentTags tags bytes ends = tagsOf found (bibliographyOf tags bytes ends)
+lentTags tags bytes ends = tagsOf searched (bibliographyOf tags bytes ends)

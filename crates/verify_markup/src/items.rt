@@ -11,30 +11,33 @@ use crate::laying::lay_if;
 use crate::texts::lay_written;
 use comment_parser::CommentItem;
 use look::byte_at;
+use name_table::Entry;
 use name_table::Spelling;
-use name_table::has_name;
+use name_table::search;
 use records::Wrote;
 use unescape::Escape;
 ghost use mathlib.Core.Path.{_≡_};
-ghost use mathlib.Core.Bool.{not};
 ghost use Prim.Native.Nat.{_-_, _≤_};
 ghost use lib.ListN.{length};
 ghost use Rattle.records.specs.Answer.{longest};
 ghost use Rattle.records.specs.Records.{laid, wroteOf};
 ghost use Rattle.name_table.specs.Spelling.{spelled};
+ghost use Rattle.name_table.specs.Search.{isMissing, searched};
 ghost use Rattle.comment_parser.specs.Item.{placedOf};
 ghost use Rattle.comment_parser.specs.Bounds.{Within};
 ghost use Rattle.verify_markup.specs.Diag.{diagWidth};
 ghost use Rattle.verify_markup.specs.Items.{noTag, tokenDiags, tildeDiags, linkDiags, nameDiags, labelDiags, bibEscapes, tagDiags, itemDiags};
-ghost use Rattle.verify_markup.specs.Lent.{found, lentTags, lentNames};
+ghost use Rattle.verify_markup.specs.Lent.{lentTags, lentNames};
 ghost use Rattle.verify_markup.specs.Bounds.{InBuf};
 
-// The search does not find the name that the text spells.
+// The search finds no entry of the name that the text spells.
 fn lacks(bytes: &[u8], ends: &[u32], how: Spelling, text: &[u8]) -> bool
-    ensures { λ r. ⌜ r ≡ not (found (now (bytes .entry)) (now (ends .entry)) (spelled how (now (text .entry)))) ⌝ }
+    ensures { λ r. ⌜ r ≡ isMissing (searched (now (bytes .entry)) (now (ends .entry)) (spelled how (now (text .entry)))) ⌝ }
 {
-    let has = has_name(bytes, ends, how, text);
-    !has
+    match search(bytes, ends, how, text) {
+        Entry::At(_) => false,
+        Entry::Nothing => true,
+    }
 }
 
 // A MathToken, looked up unescaped.
@@ -48,10 +51,10 @@ fn lay_token(
 ) -> Wrote
     requires { ⌜ InBuf (now buf) start end ⌝ }
     ensures wrote { λ r.
-        let known = found (now (bytes .entry)) (now (ends .entry)) in
+        let known = searched (now (bytes .entry)) (now (ends .entry)) in
         ⌜ r ≡ wroteOf diagWidth (tokenDiags (now (buf .entry)) known start end) (length (now (room .entry))) ⌝ }
     ensures left { λ r.
-        let known = found (now (bytes .entry)) (now (ends .entry)) in
+        let known = searched (now (bytes .entry)) (now (ends .entry)) in
         ⌜ now (room .exit) ≡ laid diagWidth (tokenDiags (now (buf .entry)) known start end) (now (room .entry)) ⌝ }
 {
     let unknown = lacks(
@@ -105,10 +108,10 @@ fn lay_name(
 ) -> Wrote
     requires { ⌜ (i ≤ longest) × InBuf (now buf) start end ⌝ }
     ensures wrote { λ r.
-        let known = found (now (bytes .entry)) (now (ends .entry)) in
+        let known = searched (now (bytes .entry)) (now (ends .entry)) in
         ⌜ r ≡ wroteOf diagWidth (nameDiags (now (buf .entry)) known i start end) (length (now (room .entry))) ⌝ }
     ensures left { λ r.
-        let known = found (now (bytes .entry)) (now (ends .entry)) in
+        let known = searched (now (bytes .entry)) (now (ends .entry)) in
         ⌜ now (room .exit) ≡ laid diagWidth (nameDiags (now (buf .entry)) known i start end) (now (room .entry)) ⌝ }
 {
     if start == end {
@@ -134,10 +137,10 @@ fn lay_label(
 ) -> Wrote
     requires { ⌜ (i ≤ longest) × InBuf (now buf) start end ⌝ }
     ensures wrote { λ r.
-        let known = found (now (bytes .entry)) (now (ends .entry)) in
+        let known = searched (now (bytes .entry)) (now (ends .entry)) in
         ⌜ r ≡ wroteOf diagWidth (labelDiags (now (buf .entry)) known i start end) (length (now (room .entry))) ⌝ }
     ensures left { λ r.
-        let known = found (now (bytes .entry)) (now (ends .entry)) in
+        let known = searched (now (bytes .entry)) (now (ends .entry)) in
         ⌜ now (room .exit) ≡ laid diagWidth (labelDiags (now (buf .entry)) known i start end) (now (room .entry)) ⌝ }
 {
     let link = lay_link(buf, i, start, end, room);

@@ -1,4 +1,4 @@
--- `driver::check` meets its contract: its answer and the room are those of a list call with the check's refusal, and over good tables the search is membership.
+-- `driver::check` meets its contract: its answer and the room are those of a list call with the check's refusal, and over good tables the search finds what the walk finds.
 -- Assumes nothing.
 use borrow.Author.Needs.{needs}
 use mathlib.Core.Path.{_≡_, sym, ap, _∙_}
@@ -8,12 +8,12 @@ use lib.ListN.{length}
 use Rattle.records.specs.Answer.{spanRefusal}
 use Rattle.records.proofs.Answers.{span-accepted}
 use Rattle.records.proofs.Laying.{given-refused}
-use Rattle.name_table.specs.Search.{isIn}
+use Rattle.name_table.specs.Search.{entryOf, searched}
 use Rattle.verify_markup.specs.Diag.{diagWidth}
 use Rattle.verify_markup.specs.Items.{Names}
 use Rattle.verify_markup.specs.List.{diagnostics}
 use Rattle.verify_markup.specs.Check.{Tables, tablesRefusal, checkRefusal, namesBy}
-use Rattle.verify_markup.specs.Lent.{found, lentTables}
+use Rattle.verify_markup.specs.Lent.{lentTables}
 use Rattle.verify_markup.proofs.CheckLaws.{refused-span, refused-tables, names-good, listed-done, listed-short}
 use Rattle.verify_markup.proofs.driver.check.Statement.{statement}
 use Rattle.verify_markup.proofs.driver.check.Tie as tie
@@ -64,7 +64,7 @@ module _ (c : tie.After-enum-told2) where
   good = tables-good ∙ refused-tables _ _ _ _ (span-good (c .before .before .before))
 
   all-same : let a = entry (c .before .before .before) .args in
-      diagnostics (namesBy found lent) (a .buf .now) (a .start) (a .end) ≡ diagnostics (namesBy isIn lent) (a .buf .now) (a .start) (a .end)
+      diagnostics (namesBy searched lent) (a .buf .now) (a .start) (a .end) ≡ diagnostics (namesBy entryOf lent) (a .buf .now) (a .start) (a .end)
   all-same = ap (λ (n : Names). let a = entry (c .before .before .before) .args in diagnostics n (a .buf .now) (a .start) (a .end)) (names-good lent tables-good)
 
 lay-all-requires : tie.Need-lay-all-requires

@@ -7,11 +7,11 @@ use lib.ListN.{length}
 use Rattle.records.proofs.Laying.{back}
 use Rattle.comment_parser.specs.Events.{left}
 use Rattle.comment_parser.specs.declared.ParserState.{ParserState}
-use Rattle.comment_parser.proofs.Along.{along-end, along-less}
+use Rattle.comment_parser.proofs.Along.{along-end, along-less, along-inside}
 use Rattle.verify_markup.specs.List.{modesAfter}
 use Rattle.verify_markup.specs.Lent.{lentNames}
 use Rattle.verify_markup.proofs.DiagLaws.{did-count}
-use Rattle.verify_markup.proofs.ListLaws.{Going, few-last, going-starts, going-on, going-item, going-ends, last-laid}
+use Rattle.verify_markup.proofs.ListLaws.{Going, few-last, going-starts, going-on, going-ends, last-laid}
 use Rattle.verify_markup.proofs.driver.lay_all.Statement.{statement}
 use Rattle.verify_markup.proofs.driver.lay_all.Tie as tie
 
@@ -59,7 +59,7 @@ lay-item-requires : tie.Need-lay-item-requires Inv-loop μ-loop
 lay-item-requires c κs =
     let e = c .before .before .before in
     let k = e .before .before .before in
-    (k .before .before .before .before .before .before .before .before .before .before .before .before .pre .short, going-item (k .before .loop .inv) (k .next-noted .result) (k .next-noted .ensures) (e .next .given .0 .1 .0) (e .next .given .0 .0) (e .next .given .1))
+    (k .before .before .before .before .before .before .before .before .before .before .before .before .pre .short, along-inside (k .before .loop .inv .along) (k .next-noted .ensures) (e .next .given .1))
 
 -- a turn, seen from the place behind the event's records
 module _ (c : tie.After-lay-item Inv-loop μ-loop) where

@@ -4,7 +4,7 @@ use borrow.Author.Needs.{needs}
 use native.Mathlib.Omega.{arith}
 use Rattle.verify_markup.proofs.DiagLaws.{did-inside, pair-did, pair-words, pair-count}
 use Rattle.verify_markup.specs.Items.{labelDiags}
-use Rattle.verify_markup.specs.Lent.{found}
+use Rattle.name_table.specs.Search.{searched}
 use Rattle.verify_markup.proofs.ItemLaws.{few-link, few-name}
 use Rattle.verify_markup.proofs.items.lay_label.Statement.{statement}
 use Rattle.verify_markup.proofs.items.lay_label.Tie as tie
@@ -41,14 +41,14 @@ add-t13 c =
     let z = c .before .before .before in
     let w = z .before .before .before .before in
     let a = w .before .before .before .before .before .before .args in
-    omega (arith, pair-words (few-link (a .buf .now) (a .i) (a .start) (a .end)) (few-name (a .buf .now) (a .start) (a .end) (found (a .bytes .now) (a .ends .now)) (a .i)) _ _ _ _ _ (w .lay-link .ensures) (z .lay-name .ensures), w .before .before .before .before .before .before .good)
+    omega (arith, pair-words (few-link (a .buf .now) (a .i) (a .start) (a .end)) (few-name (a .buf .now) (a .start) (a .end) (searched (a .bytes .now) (a .ends .now)) (a .i)) _ _ _ _ _ (w .lay-link .ensures) (z .lay-name .ensures), w .before .before .before .before .before .before .good)
 
 add-t15 : tie.Need-add-t15
 add-t15 c =
     let z = c .before .before .before .before .before in
     let w = z .before .before .before .before in
     let a = w .before .before .before .before .before .before .args in
-    omega (arith, pair-count (few-link (a .buf .now) (a .i) (a .start) (a .end)) (few-name (a .buf .now) (a .start) (a .end) (found (a .bytes .now) (a .ends .now)) (a .i)) _ _ _ _ _ (w .lay-link .ensures) (z .lay-name .ensures), w .before .before .before .before .before .before .pre .1 .inside, w .before .before .before .before .before .before .pre .1 .short)
+    omega (arith, pair-count (few-link (a .buf .now) (a .i) (a .start) (a .end)) (few-name (a .buf .now) (a .start) (a .end) (searched (a .bytes .now) (a .ends .now)) (a .i)) _ _ _ _ _ (w .lay-link .ensures) (z .lay-name .ensures), w .before .before .before .before .before .before .pre .1 .inside, w .before .before .before .before .before .before .pre .1 .short)
 
 same-length : tie.Need-same-length
 same-length c = search needs
@@ -59,7 +59,7 @@ returns c =
     let z = c .before .before .before .before .before in
     let w = z .before .before .before .before in
     let a = w .before .before .before .before .before .before .args in
-    pair-did (few-link (a .buf .now) (a .i) (a .start) (a .end)) (few-name (a .buf .now) (a .start) (a .end) (found (a .bytes .now) (a .ends .now)) (a .i)) _ _ _ _ _ (w .lay-link .ensures) (z .lay-name .ensures)
+    pair-did (few-link (a .buf .now) (a .i) (a .start) (a .end)) (few-name (a .buf .now) (a .start) (a .end) (searched (a .bytes .now) (a .ends .now)) (a .i)) _ _ _ _ _ (w .lay-link .ensures) (z .lay-name .ensures)
 
 pub lay-label-spec : {M : Type 1} → statement M
 lay-label-spec =

@@ -4,7 +4,7 @@ use borrow.Author.Needs.{needs}
 use borrow.Author.Tests.{eq-eqb}
 use Rattle.name_table.specs.Spelling.{spelled}
 use Rattle.verify_markup.specs.Items.{nameDiags}
-use Rattle.verify_markup.specs.Lent.{found}
+use Rattle.name_table.specs.Search.{searched}
 use Rattle.verify_markup.proofs.ItemLaws.{name-by}
 use Rattle.verify_markup.proofs.items.lay_name.Statement.{statement}
 use Rattle.verify_markup.proofs.items.lay_name.Tie as tie
@@ -43,7 +43,7 @@ returns-2 c =
     let w = c .before .before in
     let l = w .before .before in
     let a = l .before .before .before .before .before .before .before .args in
-    rw (name-by (a .buf .now) (a .start) (a .end) (found (a .bytes .now) (a .ends .now)) (a .i) (l .lacks .result) (l .before .before .if1 .left) (l .lacks .ensures)) (w .lay-if2 .ensures)
+    rw (name-by (a .buf .now) (a .start) (a .end) (searched (a .bytes .now) (a .ends .now)) (a .i) (l .lacks .result) (l .before .before .if1 .left) (l .lacks .ensures)) (w .lay-if2 .ensures)
 
 pub lay-name-spec : {M : Type 1} → statement M
 lay-name-spec =
