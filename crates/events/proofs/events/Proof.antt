@@ -13,13 +13,14 @@ use Rattle.records.proofs.Answers.{span-accepted}
 use Rattle.records.proofs.Laying.{Laying, back, given-refused, given-done, given-short}
 use Rattle.comment_parser.specs.Events.{left}
 use Rattle.comment_parser.proofs.Along.{along-end, along-less, along-within}
-use Rattle.events.specs.Events.{eventWidth, eventRecords}
-use Rattle.events.proofs.Laws.{Going, going-starts, going-on, going-ends}
+use Rattle.comment_parser.proofs.Giving.{Going, going-starts, going-on, going-ends}
+use Rattle.events.specs.Events.{eventWidth, recordsFrom, eventRecords}
+use Rattle.events.proofs.Laws.{records-given, records-start}
 use Rattle.events.proofs.events.Statement.{statement}
 use Rattle.events.proofs.events.Tie as tie
 
 abbrev Inv-loop : tie.InvT-loop
-Inv-loop buf start end out₀ st₀ note₀ at₀ n₀ out st note at n = Going buf start end out₀ out st note at n
+Inv-loop buf start end out₀ st₀ note₀ at₀ n₀ out st note at n = Going eventWidth buf (recordsFrom buf) (eventRecords buf start end) out₀ out st note at n
 
 abbrev μ-loop : tie.MeasureT-loop
 μ-loop buf start end out₀ st₀ note₀ at₀ n₀ out st note at n = left st
@@ -56,7 +57,8 @@ loop-holds : tie.Need-loop-holds Inv-loop μ-loop
 loop-holds c =
     let a = c .before .before .before .before .before .before .before .args in
     let fits = span-accepted (length (a .buf .now)) (a .start) (a .end) (sym (good (c .before .before))) in
-    rw (c .before .new .ensures) (going-starts (a .buf .now) (a .start) (a .end) (a .out .now) (c .nothing .result) (c .nothing .ensures .1) (omega arith))
+    rw (c .before .new .ensures, ← records-start (a .buf .now) (a .start) (a .end))
+    (going-starts eventWidth (a .buf .now) (recordsFrom (a .buf .now)) (a .start) (a .end) (a .out .now) (c .nothing .result) (c .nothing .ensures .1) (omega arith))
 
 next-noted-requires : tie.Need-next-noted-requires Inv-loop μ-loop
 next-noted-requires c κs = search needs
@@ -105,10 +107,10 @@ module _ (c : tie.After-lay-event Inv-loop μ-loop) where
       let l = head .loop in
       let w = c .lay-event .result in
       (l .at + w .words ≤ length (l .out))
-      × Going (a .buf .now) (a .start) (a .end) (a .out .now) (back (l .at) (l .out) (c .lay-event .last .0)) (event .next .given .0 .0) (call .next-noted .result .note) (l .at + w .words) (l .n + w .count)
+      × Going eventWidth (a .buf .now) (recordsFrom (a .buf .now)) (eventRecords (a .buf .now) (a .start) (a .end)) (a .out .now) (back (l .at) (l .out) (c .lay-event .last .0)) (event .next .given .0 .0) (call .next-noted .result .note) (l .at + w .words) (l .n + w .count)
 
   turned : Turned
-  turned = going-on (head .loop .inv) (call .next-noted .ensures) (event .next .given .1) (c .lay-event .ensures .0) (c .lay-event .ensures .1)
+  turned = going-on (records-given _) (head .loop .inv) (call .next-noted .ensures) (event .next .given .1) (c .lay-event .ensures .0) (c .lay-event .ensures .1)
 
 add-at : tie.Need-add-at Inv-loop μ-loop
 add-at c =
@@ -134,7 +136,7 @@ none-to-come : (c : tie.At-match2-keys2 Inv-loop μ-loop)
 none-to-come c =
     let call = c .before .before in
     let inv = call .before .loop .inv in
-    going-ends inv (along-end (inv .along) (call .next-noted .ensures) (c .match2 .keys2))
+    going-ends (records-given _) inv (along-end (inv .along) (call .next-noted .ensures) (c .match2 .keys2))
 
 same-length : tie.Need-same-length Inv-loop μ-loop
 same-length c = search needs

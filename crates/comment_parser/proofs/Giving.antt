@@ -1,0 +1,62 @@
+-- A loop over the events that lays what each of them gives, at most one record: what holds at its head, a turn, and the end.
+-- Assumes nothing.
+use Prim.Native.Nat.{ℕ, _+_, _*_, _≤_}
+use mathlib.Core.Path.{_≡_, ap}
+use mathlib.Core.List.{List, [], _++_}
+use mathlib.Core.Option.{none, some}
+use native.Mathlib.Omega.{arith}
+use lib.ListN.{length}
+use Rattle.byte_rules.specs.Reading.{rust}
+use Rattle.scans.specs.declared.Note.{Note}
+use Rattle.records.specs.Answer.{longest}
+use Rattle.records.specs.Records.{laid, wroteOf}
+use Rattle.records.specs.declared.Wrote.{Wrote}
+use Rattle.records.proofs.Laws.{Wide}
+use Rattle.records.proofs.Laying.{Laying, tail, back, laying-starts, laying-wrote}
+use Rattle.comment_parser.specs.State.{fresh}
+use Rattle.comment_parser.specs.Events.{left, seen}
+use Rattle.comment_parser.specs.Notes.{NextBy}
+use Rattle.comment_parser.specs.declared.CommentItem.{CommentItem}
+use Rattle.comment_parser.specs.declared.Next.the-variants.{Event}
+use Rattle.comment_parser.specs.declared.NextNoted.{NextNoted}
+use Rattle.comment_parser.specs.declared.ParserState.{ParserState}
+use Rattle.comment_parser.proofs.Along.{Along, along-starts, along-event, along-less, along-on}
+
+-- what an event gives, at most one record of k words, and the records from a state on
+pub record Giving (k : ℕ) (buf : List ℕ) (give : CommentItem → List (List ℕ)) (rest : ParserState → List (List ℕ)) : Type 0 where
+  pub wide : (i : CommentItem) → Wide k (give i)
+  pub one : (i : CommentItem) → length (give i) ≤ 1
+  pub on : (st : ParserState) (i : CommentItem) (t : ParserState) → seen rust buf st ≡ some (i, t) → rest st ≡ give i ++ rest t
+  pub over : (st : ParserState) → seen rust buf st ≡ none → rest st ≡ []
+
+-- at the loop's head: the records from here on are to be laid behind those before, and the count fits
+pub record Going (k : ℕ) (buf : List ℕ) (rest : ParserState → List (List ℕ)) (all : List (List ℕ)) (out₀ out : List ℕ) (st : ParserState) (note : Note) (at n : ℕ) : Type 0 where
+  pub along : Along buf st note
+  pub few : n + left st ≤ 2 * longest
+  pub laying : Laying k all (rest st) out₀ out at n
+
+pub going-starts : (k : ℕ) (buf : List ℕ) (rest : ParserState → List (List ℕ)) (start end : ℕ) (out : List ℕ) (note : Note) → note .to ≡ 0 → end ≤ longest
+    → Going k buf rest (rest (fresh start end)) out out (fresh start end) note 0 0
+going-starts k buf rest start end out note z h =
+    record { along = along-starts buf start end note z; few = omega arith; laying = laying-starts k (rest (fresh start end)) out }
+
+module _ {k : ℕ} {buf : List ℕ} {give : CommentItem → List (List ℕ)} {rest : ParserState → List (List ℕ)} (giving : Giving k buf give rest)
+    {all : List (List ℕ)} {out₀ out : List ℕ} {st : ParserState} {note : Note} {at n : ℕ} (g : Going k buf rest all out₀ out st note at n) where
+  -- a turn: what an event gives was laid in the tail, and `last` is the tail since
+  pub going-on :
+      {r : NextNoted} → NextBy buf st note r
+      → {i : CommentItem} {t : ParserState} → r .next ≡ Event t i
+      → {w : Wrote} → w ≡ wroteOf k (give i) (length (tail at out))
+      → {last : List ℕ} → last ≡ laid k (give i) (tail at out)
+      → (at + w .words ≤ length out) × Going k buf rest all out₀ (back at out last) t (r .note) (at + w .words) (n + w .count)
+  going-on says {i} {t} e {w} wrote {last} is =
+      let less = along-less (g .along) says e .less in
+      let one = giving .one i in
+      let count = ap (λ (x : Wrote). x .count) wrote in
+      let to-come = rw (giving .on st i t (along-event (g .along) says e)) at (g .laying) in
+      let lies = laying-wrote (give i) (rest t) last to-come (giving .wide i) is w wrote in
+      (lies .0, record { along = along-on (g .along) says e; few = omega (arith, g .few); laying = lies .1 })
+
+  -- the end: nothing is to come
+  pub going-ends : seen rust buf st ≡ none → Laying k all [] out₀ out at n
+  going-ends h = rw (giving .over st h) at (g .laying)
