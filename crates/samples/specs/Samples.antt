@@ -8,6 +8,8 @@ use Rattle.byte_rules.specs.Reading.{rust}
 use Rattle.date.specs.Reading.{readAnswer}
 use Rattle.date.specs.Calendar.{isCalendar}
 use Rattle.parentheticals.specs.Records.{recordsOf}
+use Rattle.name_table.specs.Lookup.{lookupAnswer}
+use Rattle.links.specs.Links.{linksOf}
 use Rattle.comment_parser.specs.Item.{span}
 use Rattle.comment_parser.specs.Events.{eventsOf}
 use Rattle.comment_parser.specs.declared.CommentItem.{CommentItem}
@@ -22,6 +24,10 @@ pub data Row : Type 0 where
   events : List ℕ → ℕ → ℕ → List CommentItem → Row
   -- the records of the parentheticals of the span from a to b of a buffer
   credits : List ℕ → ℕ → ℕ → List (List ℕ) → Row
+  -- a name looked up in a table, by its bytes and ends
+  lookup : List ℕ → List ℕ → List ℕ → Answer → Row
+  -- the links of the span from a to b of a buffer to the labels of a table, by its bytes and ends
+  links : List ℕ → ℕ → ℕ → List ℕ → List ℕ → List (List ℕ) → Row
 
 -- the row with what the definitions give
 abbrev pub computed : Row → Row
@@ -29,6 +35,8 @@ computed (date text answer) = date text (readAnswer text)
 computed (calendar y m d is) = calendar y m d (isCalendar (record { year = y; month = m; day = d }))
 computed (events buf a b items) = events buf a b (eventsOf rust buf a b)
 computed (credits buf a b records) = credits buf a b (recordsOf rust buf a b)
+computed (lookup names ends name answer) = lookup names ends name (lookupAnswer names ends name)
+computed (links buf a b names ends records) = links buf a b names ends (linksOf buf names ends a b)
 
 -- an answer by its number and values
 abbrev pub gives : ℕ → List ℕ → Answer
@@ -69,4 +77,12 @@ table a b c d e f g h i j k l =
     ∷ events (bytes " _b_") 1 4 (StartItalic 1 ∷ Text (span 2 3) ∷ EndItalic 3 ∷ [])
     -- one credit (0,49), author (16,35), date (37,47)
     ∷ credits (bytes "(Contributed by Ann (Revised by Bob, 2-Feb-2020.)") 0 49 ((1 ∷ 0 ∷ 49 ∷ 16 ∷ 35 ∷ 37 ∷ 47 ∷ []) ∷ [])
+    -- the table of a, a[b and ax-1: an entry, none; and the table of a twice, whose second entry is bad
+    ∷ lookup (bytes "aa[bax-1") (1 ∷ 4 ∷ 8 ∷ []) (bytes "ax-1") (gives 0 (2 ∷ []))
+    ∷ lookup (bytes "aa[bax-1") (1 ∷ 4 ∷ 8 ∷ []) (bytes "b") (gives 0 [])
+    ∷ lookup (bytes "aa") (1 ∷ 2 ∷ []) (bytes "a") (gives 4 (1 ∷ 1 ∷ []))
+    -- labels are looked up unescaped, and one is not there; a Url gives no link; an empty label has one where the first name is empty
+    ∷ links (bytes "~ ax-1 ~ a[[b ~ b") 0 17 (bytes "aa[bax-1") (1 ∷ 4 ∷ 8 ∷ []) ((2 ∷ 6 ∷ 2 ∷ []) ∷ (9 ∷ 13 ∷ 1 ∷ []) ∷ [])
+    ∷ links (bytes "~ mmx") 0 5 (bytes "mmx") (3 ∷ []) []
+    ∷ links (bytes "~") 0 1 [] (0 ∷ []) ((1 ∷ 1 ∷ 0 ∷ []) ∷ [])
     ∷ []

@@ -1,0 +1,3 @@
+-- Exactly: which records are listed.
+mod Laws
+pub mod Exactly
