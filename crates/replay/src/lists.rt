@@ -1,4 +1,4 @@
-// Ops E and P, which list records: the words that are lent, and the answer. Op C lists its records by the same functions.
+// Ops E and P, which list records: the words that are lent, and the answer. Ops C and H list their records by the same functions.
 use crate::header::Header;
 use crate::output::Told;
 use crate::output::answered;

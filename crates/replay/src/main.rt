@@ -22,6 +22,7 @@ use header::read_header;
 use lists::fill_words;
 use lists::list_events;
 use lists::list_parentheticals;
+use lookups::list_links;
 use output::Told;
 use output::front;
 use output::no_case;
@@ -104,6 +105,7 @@ fn with_words(
     match op {
         b'E' => list_events(h, payload, words, output, out),
         b'P' => list_parentheticals(h, payload, words, output, out),
+        b'H' => list_links(h, payload, tables, names, ends, words, output, out),
         _ => list_diagnostics(h, payload, tables, names, ends, words, output, out),
     }
 }
@@ -171,7 +173,7 @@ fn answer(
     match op {
         b'N' => lookups::looking_up(h, payload, tables, names, ends, output, out),
         b'U' | b'V' | b'W' => text_op(h, payload, room, output, out),
-        b'E' | b'P' | b'C' => list_op(h, payload, tables, names, ends, words, output, out),
+        b'E' | b'P' | b'C' | b'H' => list_op(h, payload, tables, names, ends, words, output, out),
         _ => plain_op(h, payload, output, out),
     }
 }
