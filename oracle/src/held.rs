@@ -77,7 +77,9 @@ fn count(tally: &mut Tally, case: &Case, answer: &[u8]) {
     let head: Vec<&str> = lines.next().unwrap_or("").split('\t').collect();
     let op = head[0].chars().next().unwrap_or('?');
     let mut add = |what: &'static str, value: &str| {
-        if let Ok(value) = value.parse() {
+        if let Ok(value) = value.parse::<u64>() {
+            // entries from 10 on are counted together, as 10
+            let value = if what == "entry" { value.min(10) } else { value };
             *tally.entry((op, what, value)).or_default() += 1;
         }
     };
@@ -87,7 +89,8 @@ fn count(tally: &mut Tally, case: &Case, answer: &[u8]) {
     add("answer", head[1]);
     // fields of the head line that are worth counting, by op and answer
     let fields: &[(&'static str, usize)] = match (op, head[1]) {
-        ('L' | 'R' | 'K' | 'O' | 'N', "0") => &[("value", 2)],
+        ('L' | 'R' | 'K' | 'O', "0") => &[("value", 2)],
+        ('N', "0") => &[("value", 2), ("entry", 3)],
         ('F', "0") => &[("modification", 2), ("usage", 3)],
         ('D', "0") => &[("month", 3), ("calendar", 5)],
         ('S' | 'Q', _) => &[("end", 3)],

@@ -207,10 +207,13 @@ fn parser_unescape(case: &Case, out: &mut Out) -> Option<()> {
 }
 
 fn look_up(case: &Case, tables: &Tables, out: &mut Out) {
-    let Some(names) = tables.get(case.flag) else { return yes_no(out, "N", false) };
-    match names.first_bad() {
-        Some(entry) => line(out, "N", &[4, 1, entry as u32]),
-        None => yes_no(out, "N", names.entry(&case.payload).is_some()),
+    let Some(names) = tables.get(case.flag) else { return line(out, "N", &[0, 0]) };
+    if let Some(entry) = names.first_bad() {
+        return line(out, "N", &[4, 1, entry as u32]);
+    }
+    match names.entry(&case.payload) {
+        Some(entry) => line(out, "N", &[0, 1, entry as u32]),
+        None => line(out, "N", &[0, 0]),
     }
 }
 

@@ -82,9 +82,11 @@ fn tables_and_their_first_bad_entry() {
     let look = |ends: &[u32], bytes: &[u8], name: &[u8]| {
         run_cases(&[table(2, ends, bytes), Case { op: b'N', flag: 2, payload: name.to_vec(), ..Case::default() }])
     };
-    assert_eq!(look(&[0, 1, 3], b"aab", b""), "N 0 1\n");
-    assert_eq!(look(&[1, 3], b"aab", b"ab"), "N 0 1\n");
+    assert_eq!(look(&[0, 1, 3], b"aab", b""), "N 0 1 0\n");
+    assert_eq!(look(&[1, 3], b"aab", b"ab"), "N 0 1 1\n");
+    assert_eq!(look(&[1, 3], b"aab", b"a"), "N 0 1 0\n");
     assert_eq!(look(&[1, 3], b"aab", b"b"), "N 0 0\n");
+    assert_eq!(look(&[], b"", b""), "N 0 0\n");
     assert_eq!(look(&[1, 2], b"aa", b"a"), "N 4 1 1\n");
     assert_eq!(look(&[0, 0], b"", b""), "N 4 1 1\n");
     assert_eq!(look(&[1, 0], b"a", b""), "N 4 1 1\n");

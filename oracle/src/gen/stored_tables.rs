@@ -56,6 +56,11 @@ const MALFORMED: &[(&[u32], &[u8])] = &[
 const WELL_FORMED: &[(&[u32], &[u8])] =
     &[(&[], b""), (&[0], b""), (&[0, 1], b"a"), (&[1], b"a"), (&[1, 3, 6, 8], b"aababcac"), (&[1, 2], b"\x7f\x80")];
 
+/// Names that tell their own entry: `n000`, `n001` and so on.
+pub fn numbered(count: usize) -> Vec<String> {
+    (0..count).map(|entry| format!("n{entry:03}")).collect()
+}
+
 pub fn lookups(sink: &mut Sink) {
     let look = |sink: &mut Sink, flag: u8, text: &[u8]| {
         sink.put(&Case { op: b'N', flag, payload: text.to_vec(), ..Case::default() });
@@ -65,6 +70,13 @@ pub fn lookups(sink: &mut Sink) {
         look(sink, flag, b"a");
         sink.lend(flag, &["", "a", "ab", "b", "\u{e9}"]);
         for text in ["", "a", "ab", "abc", "b", "c", "\u{e9}", "A"] {
+            look(sink, flag, text.as_bytes());
+        }
+    }
+    // entries of one, two and three digits, and on both sides of 256
+    for flag in 1..=3 {
+        sink.lend(flag, &numbered(300));
+        for text in ["n000", "n009", "n010", "n099", "n100", "n255", "n256", "n299", "n300", "n"] {
             look(sink, flag, text.as_bytes());
         }
     }
