@@ -78,7 +78,7 @@ impl Case {
     fn header_fits(&self, length: u32) -> bool {
         match self.op {
             b'T' => self.flag == 0 || self.flag <= 3 && self.a <= self.most_ends() && self.a * 4 <= length,
-            b'E' | b'P' | b'C' => self.room <= MOST_WORDS,
+            b'E' | b'P' | b'C' | b'H' => self.room <= MOST_WORDS,
             b'S' => length >= STATE_BYTES,
             b'K' => self.is_date_triple(),
             b'W' => self.is_date_triple() && self.room <= MOST_TEXT,

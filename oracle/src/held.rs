@@ -79,7 +79,7 @@ fn count(tally: &mut Tally, case: &Case, answer: &[u8]) {
     let mut add = |what: &'static str, value: &str| {
         if let Ok(value) = value.parse::<u64>() {
             // entries from 10 on are counted together, as 10
-            let value = if what == "entry" { value.min(10) } else { value };
+            let value = if matches!(what, "entry" | "link") { value.min(10) } else { value };
             *tally.entry((op, what, value)).or_default() += 1;
         }
     };
@@ -94,7 +94,7 @@ fn count(tally: &mut Tally, case: &Case, answer: &[u8]) {
         ('F', "0") => &[("modification", 2), ("usage", 3)],
         ('D', "0") => &[("month", 3), ("calendar", 5)],
         ('S' | 'Q', _) => &[("end", 3)],
-        ('N' | 'C', "4") => &[("table", 2)],
+        ('N' | 'C' | 'H', "4") => &[("table", 2)],
         _ => &[],
     };
     for &(what, at) in fields {
@@ -110,10 +110,13 @@ fn count(tally: &mut Tally, case: &Case, answer: &[u8]) {
         _ => "record",
     };
     for line in lines {
-        let first = line.split('\t').next().unwrap_or("");
+        let mut words = line.split('\t');
+        let first = words.next().unwrap_or("");
         match first {
             "touched" => add("touched", "1"),
             "state" => {}
+            // a link has no kind, and is counted by its entry, its last word
+            _ if op == 'H' => add("link", words.last().unwrap_or("")),
             _ => add(kinds, first),
         }
     }

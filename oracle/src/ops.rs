@@ -7,7 +7,7 @@ use crate::lent::{Bibliography, Database};
 use crate::parser::is_valid_label;
 use crate::rooms::{lay, write_text};
 use crate::states::{event_words, State, STATE_BYTES};
-use crate::tables::Tables;
+use crate::tables::{Names, Tables};
 use crate::verify_markup::{check_comment, is_reserved_name};
 use crate::Span;
 
@@ -30,6 +30,7 @@ pub fn answer(case: &Case, tables: &mut Tables, out: &mut Out) -> Option<()> {
         b'R' => yes_no(out, "R", is_reserved_name(&case.payload)),
         b'N' => look_up(case, tables, out),
         b'C' => check(case, tables, out),
+        b'H' => links(case, tables, out),
         _ => return None,
     }
     Some(())
@@ -243,4 +244,25 @@ fn check(case: &Case, tables: &Tables, out: &mut Out) {
     let found = check_comment(&db, bib.as_ref(), &case.payload, span);
     let list: Vec<[u32; 4]> = found.iter().map(diagnostic_words).collect();
     answers::list(out, "C", &lay(&list, case.room), 4);
+}
+
+/// The three words of a link; none if the event is no Label, or its unescaped text no name of the table.
+fn link_words(item: CommentItem, buf: &[u8], labels: &Names) -> Option<[u32; 3]> {
+    let CommentItem::Label(_, span) = item else { return None };
+    let mut text = vec![];
+    CommentItem::unescape_label(span.as_ref(buf), &mut text);
+    let entry = labels.entry(&text)?;
+    Some([span.start, span.end, entry as u32])
+}
+
+/// The links. The crate has no such list: the events and the unescaping are its own, the lookup is ours.
+fn links(case: &Case, tables: &Tables, out: &mut Out) {
+    let buf = &case.payload;
+    let Some(span) = span_of(case, buf) else { return line(out, "H", &[2, 0]) };
+    let labels = &tables.labels;
+    if let Some(entry) = labels.first_bad() {
+        return line(out, "H", &[4, 1, entry as u32]);
+    }
+    let list: Vec<[u32; 3]> = CommentParser::new(buf, span).filter_map(|item| link_words(item, buf, labels)).collect();
+    answers::list(out, "H", &lay(&list, case.room), 3);
 }

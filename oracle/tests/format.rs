@@ -96,6 +96,31 @@ fn tables_and_their_first_bad_entry() {
 }
 
 #[test]
+fn links_that_fit_and_their_refusals() {
+    // entries: the empty name, a, ax-1
+    let lent = table(2, &[0, 1, 5], b"aax-1");
+    let text = b"~ ax-1 ~ a ~ b ~";
+    let ask = |a, b, room| case(b'H', a, b, room, text);
+    let run_lent = |asked: Case| run_cases(&[lent.clone(), asked]);
+    assert_eq!(run_cases(&[ask(0, 16, 9)]), "H 0 0\n");
+    assert_eq!(run_lent(ask(0, 16, 0)), "H 7 3\n");
+    assert_eq!(run_lent(ask(0, 16, 2)), "H 7 3\n");
+    assert_eq!(run_lent(ask(0, 16, 3)), "H 7 3\n2 6 2\n");
+    assert_eq!(run_lent(ask(0, 16, 8)), "H 7 3\n2 6 2\n9 10 1\n");
+    let all = "H 0 3\n2 6 2\n9 10 1\n16 16 0\n";
+    assert_eq!(run_lent(ask(0, 16, 9)), all);
+    assert_eq!(run_lent(ask(0, 16, 11)), all);
+    assert_eq!(run_lent(ask(7, 14, 3)), "H 0 1\n9 10 1\n");
+    assert_eq!(run_lent(ask(0, 17, 9)), "H 2 0\n");
+    assert_eq!(run_lent(ask(3, 2, 9)), "H 2 0\n");
+    // the labels are lent alone, so they are table 1; a span that is none comes first, a short room last
+    let bad = |number| table(number, &[1, 1], b"a");
+    assert_eq!(run_cases(&[bad(2), ask(0, 16, 0), ask(0, 17, 0)]), "H 4 1 1\nH 2 0\n");
+    // the other tables are not looked at
+    assert_eq!(run_cases(&[bad(1), bad(3), lent.clone(), ask(0, 16, 9)]), all);
+}
+
+#[test]
 fn the_check_tells_the_lowest_refusal() {
     let bad = |number| table(number, &[], b"a");
     let none = Case { op: b'T', ..Case::default() };

@@ -1,11 +1,16 @@
 //! The samples of document 01, marked or not, run through the oracle.
 use oracle::cases::Case;
+use oracle::gen::sink::table;
 use oracle::{ops, tables::Tables};
 
-fn run(case: &Case) -> String {
+fn run_with(tables: &mut Tables, case: &Case) -> String {
     let mut out = vec![];
-    ops::answer(case, &mut Tables::default(), &mut out).expect("a case");
+    ops::answer(case, tables, &mut out).expect("a case");
     String::from_utf8(out).unwrap().replace('\t', " ")
+}
+
+fn run(case: &Case) -> String {
+    run_with(&mut Tables::default(), case)
 }
 
 /// A case of a span with room for everything.
@@ -13,14 +18,17 @@ fn span_case(op: u8, text: &str, a: usize, b: usize) -> Case {
     Case { op, a: a as u32, b: b as u32, room: 4096, payload: text.into(), ..Case::default() }
 }
 
-/// The records of a span, without the head line, whose answer is 0 and whose count fits.
-fn records(op: u8, text: &str, a: usize, b: usize) -> Vec<String> {
-    let answer = run(&span_case(op, text, a, b));
+/// The records of an answer, without the head line, whose answer is 0 and whose count fits.
+fn records_of(answer: &str, op: u8, text: &str) -> Vec<String> {
     let mut lines = answer.lines().map(str::to_string);
     let head = lines.next().unwrap();
     let rest: Vec<String> = lines.collect();
     assert_eq!(head, format!("{} 0 {}", op as char, rest.len()), "{text:?}");
     rest
+}
+
+fn records(op: u8, text: &str, a: usize, b: usize) -> Vec<String> {
+    records_of(&run(&span_case(op, text, a, b)), op, text)
 }
 
 fn events(text: &str, want: &[&str]) {
@@ -29,6 +37,14 @@ fn events(text: &str, want: &[&str]) {
 
 fn credits(text: &str, want: &[&str]) {
     assert_eq!(records(b'P', text, 0, text.len()), want, "{text:?}");
+}
+
+/// The links of a text, whole, against labels that are given as ends and bytes.
+fn links(ends: &[u32], names: &str, text: &str, want: &[&str]) {
+    let mut tables = Tables::default();
+    run_with(&mut tables, &table(2, ends, names.as_bytes()));
+    let answer = run_with(&mut tables, &span_case(b'H', text, 0, text.len()));
+    assert_eq!(records_of(&answer, b'H', text), want, "{text:?}");
 }
 
 fn date(text: &str, want: &str) {
@@ -113,4 +129,13 @@ fn unescape_after_the_mode_turned() {
 fn listing() {
     let want = ["1 0 0 1", "10 1 1 1", "1 2 2 3", "11 3 3 3", "1 3 3 4", "6 4 6 11"];
     events("x_0 ~ ax-1.", &want);
+}
+
+/// Request P4's: start and end of a label, and its entry.
+#[test]
+fn links_of_a_comment() {
+    links(&[1, 4, 8], "aa[bax-1", "~ ax-1 ~ a[[b ~ b", &["2 6 2", "9 13 1"]);
+    links(&[3], "mmx", "~ mmx", &[]);
+    links(&[0, 1], "a", "~", &["1 1 0"]);
+    links(&[1], "a", "~", &[]);
 }

@@ -51,7 +51,7 @@ pub fn inputs() -> Vec<Bad> {
 }
 
 /// Each op with its letter, and what it needs beside itself.
-const OPS: [(u8, &str); 16] = [
+const OPS: [(u8, &str); 17] = [
     (b'T', "LT"),
     (b'E', "LE"),
     (b'S', "LS"),
@@ -68,6 +68,7 @@ const OPS: [(u8, &str); 16] = [
     (b'R', "LR"),
     (b'N', "LTN"),
     (b'C', "LTC"),
+    (b'H', "LTH"),
 ];
 
 /// What REPLAY.md calls no case, op by op.
@@ -101,6 +102,7 @@ fn no_cases() -> Vec<(&'static str, Case)> {
         ("room-over", Case { room: MOST_WORDS + 1, ..span_case(b'E', b"a", 0, 1) }),
         ("room-over", Case { room: MOST_WORDS + 1, ..span_case(b'P', b"a", 0, 1) }),
         ("room-over", Case { room: MOST_WORDS + 1, ..span_case(b'C', b"a", 0, 1) }),
+        ("room-over", Case { room: MOST_WORDS + 1, ..span_case(b'H', b"a", 0, 1) }),
         ("flag-0", Case { op: b'N', ..Case::default() }),
         ("flag-4", Case { op: b'N', flag: 4, ..Case::default() }),
         ("short", Case { op: b'S', c: 1, payload: vec![0; 39], ..Case::default() }),

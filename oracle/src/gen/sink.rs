@@ -64,6 +64,7 @@ impl<'a> Sink<'a> {
         let (width, most) = match case.op {
             b'P' => (7, MOST_WORDS),
             b'E' | b'C' => (4, MOST_WORDS),
+            b'H' => (3, MOST_WORDS),
             _ => (1, MOST_TEXT),
         };
         match numbers[..] {
