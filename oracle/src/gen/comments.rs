@@ -7,9 +7,9 @@ const BLANKS: &[&str] = &[" ", " ", " ", " ", "  ", "\n", "\n     ", "\n\n", "\n
 const CLOSERS: &[&str] = &[".", ",", ";", ")", "?", "!", ":", "]", "'", "\"", "_", "-", ""];
 const OPENERS: &[&str] = &["(", "[", "\"", "'", " \"", "( ", "[ ", " \" ", ""];
 const TOKENS: &[&str] = &["ph", "->", "A.", "x", "e.", "(", ")", "``", "a``b", "_om", "|-", "[", "~", "A", "x_0"];
-const LABELS: &[&str] =
+pub const LABELS: &[&str] =
     &["ax-1", "mp2", "a1i", "idi", "ax-mp", "a.b", "a[b", "a[[b", "x[A]", "df-an", "mmtheorems.html", "m", "1__2"];
-const URLS: &[&str] = &[
+pub const URLS: &[&str] = &[
     "http://us.metamath.org/a_b",
     "https://x.org/~~norm",
     "http:/x",

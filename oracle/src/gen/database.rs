@@ -83,10 +83,10 @@ fn as_they_are(plan: &Plan, sink: &mut Sink, emit: Emit) {
     }
 }
 
-/// Comments with a few bytes changed: once in the short run (one in four), several times in the long one.
-fn with_changes(plan: &Plan, sink: &mut Sink, emit: Emit) {
+/// Comments with a few bytes changed: once in the short run (one of so many), several times in the long one.
+fn with_changes(plan: &Plan, sink: &mut Sink, one_of: usize, emit: Emit) {
     let comments = plan.mm.map_or(&[][..], |mm| &mm.comments);
-    for comment in comments.iter().step_by(plan.either(4, 1)) {
+    for comment in comments.iter().step_by(plan.either(one_of, 1)) {
         for _ in 0..plan.either(1, 5) {
             let text = mutated(&mut sink.rng, comment);
             if text.len() <= MOST_BYTES as usize {
@@ -114,6 +114,10 @@ fn check(sink: &mut Sink, buf: &[u8], a: usize, b: usize) {
     sink.put_roomed(span_case(b'C', buf, a, b));
 }
 
+fn link(sink: &mut Sink, buf: &[u8], a: usize, b: usize) {
+    sink.put_roomed(span_case(b'H', buf, a, b));
+}
+
 fn plain(sink: &mut Sink, buf: &[u8], a: usize, b: usize) {
     let flag = sink.rng.below(4) as u8;
     sink.put_roomed(Case { flag, ..span_case(b'U', buf, a, b) });
@@ -128,7 +132,7 @@ pub fn events(plan: &Plan, sink: &mut Sink) {
 }
 
 pub fn events_mutated(plan: &Plan, sink: &mut Sink) {
-    with_changes(plan, sink, event);
+    with_changes(plan, sink, 4, event);
 }
 
 pub fn parentheticals(plan: &Plan, sink: &mut Sink) {
@@ -136,7 +140,7 @@ pub fn parentheticals(plan: &Plan, sink: &mut Sink) {
 }
 
 pub fn parentheticals_mutated(plan: &Plan, sink: &mut Sink) {
-    with_changes(plan, sink, credit);
+    with_changes(plan, sink, 4, credit);
 }
 
 pub fn parentheticals_stepped(plan: &Plan, sink: &mut Sink) {
@@ -154,8 +158,14 @@ pub fn unescaping(plan: &Plan, sink: &mut Sink) {
 fn lend_all(plan: &Plan, sink: &mut Sink) {
     if let Some(mm) = plan.mm {
         sink.lend(1, &mm.symbols.iter().collect::<Vec<_>>());
-        sink.lend(2, &mm.labels.iter().collect::<Vec<_>>());
         sink.lend(3, &mm.tags.iter().collect::<Vec<_>>());
+    }
+    lend_labels(plan, sink);
+}
+
+fn lend_labels(plan: &Plan, sink: &mut Sink) {
+    if let Some(mm) = plan.mm {
+        sink.lend(2, &mm.labels.iter().collect::<Vec<_>>());
     }
 }
 
@@ -166,7 +176,18 @@ pub fn checks(plan: &Plan, sink: &mut Sink) {
 
 pub fn checks_mutated(plan: &Plan, sink: &mut Sink) {
     lend_all(plan, sink);
-    with_changes(plan, sink, check);
+    with_changes(plan, sink, 4, check);
+}
+
+pub fn links(plan: &Plan, sink: &mut Sink) {
+    lend_labels(plan, sink);
+    as_they_are(plan, sink, link);
+}
+
+/// Fewer in the short run than of the other ops: each call checks the whole table, and asks little else.
+pub fn links_mutated(plan: &Plan, sink: &mut Sink) {
+    lend_labels(plan, sink);
+    with_changes(plan, sink, 16, link);
 }
 
 /// Each label, as it is and changed.

@@ -156,6 +156,41 @@ pub fn checks(plan: &Plan, sink: &mut Sink) {
     at_limits(plan, sink, b'C', MOST_WORDS, &texts);
 }
 
+/// The most records, the largest table, the longest label, and tables that are bad as late as can be.
+pub fn links(plan: &Plan, sink: &mut Sink) {
+    sink.lend(2, &["", "a", "a~"]);
+    let mut texts = large_texts(plan, sink);
+    // a label, found, in every three bytes
+    texts.extend([&b"~[]"[..], b"~a ", b"~a~~\n"].map(|t| filled(t, MOST)));
+    at_limits(plan, sink, b'H', MOST_WORDS, &texts);
+    // the most ends and the most bytes at once: names of twelve bytes
+    let names: Vec<String> = (0..131_072).map(|entry| format!("{entry:012x}")).collect();
+    let ends: Vec<u32> = (1..=131_072).map(|count| 12 * count).collect();
+    let bytes = names.concat().into_bytes();
+    sink.put(&table(2, &ends, &bytes));
+    let labels: String = names.iter().rev().step_by(31).chain(&names[..1]).map(|name| format!("~ {name} ")).collect();
+    at_limits(plan, sink, b'H', MOST_WORDS, &[labels.into_bytes()]);
+    // its last end one short; its last name as the one before
+    let ask = span_case(b'H', b"~ a", 0, 3);
+    let mut short = ends.clone();
+    short[131_071] -= 1;
+    sink.put(&table(2, &short, &bytes));
+    sink.put(&ask);
+    let twice = [&bytes[..12 * 131_071], names[131_070].as_bytes()].concat();
+    sink.put(&table(2, &ends, &twice));
+    sink.put(&ask);
+    // labels as long as a payload allows, plain and all escapes
+    let (plain, escapes) = (filled(b"x", MOST - 2), filled(b"[", MOST - 2));
+    sink.lend(2, &[&plain[..], &escapes[..MOST / 2 - 1]]);
+    for label in [plain, escapes] {
+        sink.put_every_room(span_case(b'H', &[b"~ ", &label[..]].concat(), 0, MOST));
+    }
+    // one name as long as a table allows
+    let long = vec![b'x'; 2_097_152 - 4];
+    sink.put(&table(2, &[long.len() as u32], &long));
+    sink.put(&Case { room: 3, ..span_case(b'H', &[b"~ ", &long[..MOST - 2]].concat(), 0, MOST) });
+}
+
 /// The largest payloads of the ops that read bytes and no span: L, R, D and F, whichever the stream is for.
 fn large_bytes(sink: &mut Sink, op: u8, texts: &[&[u8]]) {
     for text in texts {

@@ -7,6 +7,7 @@ pub mod credits;
 pub mod database;
 pub mod dates;
 pub mod limits;
+pub mod links;
 pub mod names;
 pub mod parsing;
 pub mod random;
@@ -14,6 +15,7 @@ pub mod sink;
 pub mod stepping;
 pub mod stored;
 pub mod stored_comments;
+pub mod stored_links;
 pub mod stored_sweeps;
 pub mod stored_tables;
 pub mod texts;
@@ -112,6 +114,13 @@ pub const STREAMS: &[Stream] = &[
     plain("C-limits", "TC", limits::checks),
     of_mm("C-database", "TC", database::checks),
     of_mm("C-mutated", "TC", database::checks_mutated),
+    plain("H-exhaustive", "TH", links::exhaustive),
+    plain("H-random", "TH", links::random),
+    plain("H-tables", "TH", links::tables),
+    plain("H-malformed", "TH", links::malformed),
+    plain("H-limits", "TH", limits::links),
+    of_mm("H-database", "TH", database::links),
+    of_mm("H-mutated", "TH", database::links_mutated),
 ];
 
 /// The streams whose every op is among these.

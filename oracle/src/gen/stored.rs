@@ -1,7 +1,8 @@
 //! The stored cases: a few thousand, chosen so that each rule and each refusal of an op is there.
-//! A new op gets a function, here, in stored_comments.rs or in stored_tables.rs, and a line in `put`; stored_sweeps.rs adds what goes by the hundred.
+//! A new op gets a function, here or in a file beside this one, and a line in `put`; stored_sweeps.rs adds what goes by the hundred.
 use super::sink::{span_case, Sink};
 use super::stored_comments::{credits, events, flags, parser_unescaping, steps};
+use super::stored_links::links;
 use super::stored_sweeps as sweeps;
 use super::stored_tables::{checks, lookups};
 use crate::cases::Case;
@@ -23,6 +24,7 @@ pub fn put(op: u8, sink: &mut Sink) {
         b'F' => flags(sink),
         b'N' => lookups(sink),
         b'C' => checks(sink),
+        b'H' => links(sink),
         _ => {}
     }
     match op {

@@ -17,7 +17,7 @@ fn lend_few(sink: &mut Sink) {
 }
 
 /// Tables that are malformed, in each way at the first, a middle and the last entry, where it can stand there.
-const MALFORMED: &[(&[u32], &[u8])] = &[
+pub const MALFORMED: &[(&[u32], &[u8])] = &[
     // an end past the bytes
     (&[6, 2, 3, 4, 5], b"abcde"),
     (&[1, 2, 6, 4, 5], b"abcde"),
