@@ -158,9 +158,9 @@ pub fn unescaping(plan: &Plan, sink: &mut Sink) {
 fn lend_all(plan: &Plan, sink: &mut Sink) {
     if let Some(mm) = plan.mm {
         sink.lend(1, &mm.symbols.iter().collect::<Vec<_>>());
+        lend_labels(plan, sink);
         sink.lend(3, &mm.tags.iter().collect::<Vec<_>>());
     }
-    lend_labels(plan, sink);
 }
 
 fn lend_labels(plan: &Plan, sink: &mut Sink) {
