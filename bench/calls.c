@@ -1,5 +1,5 @@
 /* Makes the library's calls and does nothing else with their answers: what they cost with room for all that they write.
- * Reads cases (oracle/REPLAY.md) of the ops T E P U C from a file on standard input. A room that is not 0 is lent whole: 524,288 words or
+ * Reads cases (oracle/REPLAY.md) of the ops T E P U C H from a file on standard input. A room that is not 0 is lent whole: 524,288 words or
  * 65,536 bytes. Prints the sum of the counts that were answered. Refuses (status 2) an input that is no file of such cases. */
 #include <stdint.h>
 #include <stdio.h>
@@ -17,6 +17,8 @@ size_t call_unescape_label(BUF, uint8_t *out, size_t room);
 size_t call_unescape_math(BUF, uint8_t *out, size_t room);
 size_t call_verify_markup(BUF, NAMES(symbol), NAMES(label), NAMES(bib), uint32_t *out, size_t room);
 size_t call_verify_markup_no_tags(BUF, NAMES(symbol), NAMES(label), uint32_t *out, size_t room);
+
+size_t call_links(BUF, NAMES(label), uint32_t *out, size_t room);
 
 enum { WORDS = 524288, BYTES = 65536 };
 static uint32_t words[WORDS];
@@ -88,6 +90,8 @@ int main(void)
             sum += call_parentheticals(payload, n, a, b, words, room ? WORDS : 0);
         else if (op == 'C')
             sum += check(payload, n, a, b, room ? WORDS : 0);
+        else if (op == 'H')
+            sum += call_links(payload, n, a, b, TABLE(2), words, room ? WORDS : 0);
         else if (op == 'U')
             sum += unescape(flag, payload, n, a, b, room ? BYTES : 0);
         else

@@ -3,6 +3,10 @@
 # The calls that are counted beside the Rust: what each is called here, its op and flag.
 CALLS = [("events", "E", 0), ("parentheticals", "P", 0), ("unescape, Text", "U", 0), ("unescape, Text in HTML", "U", 1),
          ("unescape, label", "U", 2), ("unescape, math", "U", 3), ("check", "C", 0)]
+# What room is counted for: the ops and flags that are lent some.
+ROOMS = [(op, flag) for _, op, flag in CALLS] + [("H", 0)]
+# Links: at most the events' count, and so many instructions a label and a byte of its text.
+A_LABEL, A_LABEL_BYTE = 900, 12
 # Ours over the Rust's: at most, and the aim.
 GOALS = {("E", 0): (0.5, 0.25), ("P", 0): (0.2, 0.1), ("U", 0): (0.8, 0.4), ("C", 0): (0.8, 0.5)}
 # A third of a second at 400 MHz.
@@ -31,6 +35,7 @@ PUBLIC = [
     ("lookup, in the labels", "call_lookup", [2, "the name"]),
     ("verify_markup", "call_verify_markup", [BUFFER, ("C", 0), 1, 2, 3]),
     ("verify_markup_no_tags", "call_verify_markup_no_tags", [BUFFER, ("C", 0), 1, 2]),
+    ("links", "call_links", [BUFFER, ("H", 0), 2]),
     ("events_by_view; in it advance, View::open, View::next_item", "call_events_by_view", [BUFFER, ("E", 0)]),
     ("put_decimal", "call_put_decimal", ["at most 20 bytes of room"]),
     ("read_date", "call_read_date", ["the date"]),
@@ -38,7 +43,9 @@ PUBLIC = [
     ("compare", "call_compare", []),
     ("is_calendar", "call_is_calendar", []),
 ]
-WIDTHS = {"E": 16, "P": 28, "C": 16, "U": 1}
+WIDTHS = {"E": 16, "P": 28, "C": 16, "H": 12, "U": 1}
+# What is counted of one comment: four calls, the check of the comment check's tables, and that of the links' labels.
+PARTS = ["events", "parentheticals", "check", "links", "tables' check", "labels' check"]
 SHOWN = {"\n ": "LF and space", "`a": "`` `a ``"}
 
 
@@ -105,16 +112,26 @@ def under(total):
     return f"{PAGE - total:,} under" if total < PAGE else f"**{total - PAGE:,} over**"
 
 
-def big_rows(big):
+def links_rows(facts):
+    """The links beside the events, at either room: instructions a byte, and the most that they may be."""
+    labels, text = facts["labels"]
+    more = (A_LABEL * labels + A_LABEL_BYTE * text) / facts["bytes"]
     made = []
-    for room, (e, p, c, t) in big.items():
-        made.append([room, f"{e:,}", f"{p:,}", f"{c:,}", f"{t:,}", f"{e + p + c + t:,}", under(e + p + c + t), f"{PAGE / (e + p + c + t):.1f}"])
+    for (room, parts), events in zip(facts["links"].items(), facts["rows"]["E", 0][1:]):
+        ours = sum(parts)
+        a_label = ((ours - events) * facts["bytes"] - A_LABEL_BYTE * text) / labels
+        made.append([room, f"{events:.2f}", *(f"{part:.2f}" for part in parts), f"{ours:.2f}", f"{events + more:.2f}",
+                     "reached" if ours <= events + more else "**missed**", f"{a_label:.0f}"])
     return made
 
 
+def big_rows(big):
+    return [[room, *(f"{n:,}" for n in parts), f"{sum(parts):,}", under(sum(parts)), f"{PAGE / sum(parts):.1f}"] for room, parts in big.items()]
+
+
 def growth(small, large):
-    """The greatest of the three calls: the cost a byte at four times the length, over that at the length."""
-    return max(l / s / 4 for s, l in zip(small[:3], large[:3]))
+    """The greatest of the four calls: the cost a byte at four times the length, over that at the length."""
+    return max(l / s / 4 for s, l in zip(small[:4], large[:4]))
 
 
 def square_rows(squares):
@@ -145,19 +162,25 @@ The Rust and ours at room 0 are whole programs (the oracle and `replay`). At roo
 Ours with room enough (524,288 words or 65,536 bytes) is the call alone, made from C (`calls.c`), with all records or the text written.
 
 {set_mm(facts)}
-The check: with set.mm's {symbols:,} symbols, {labels:,} labels and a bibliography of {tags} tags. Each of our calls checks the tables anew ({facts['big']['room 0'][3]:,} instructions), too much for as many calls as there are comments. So ours is counted in two parts:
+The check: with set.mm's {symbols:,} symbols, {labels:,} labels and a bibliography of {tags} tags. Each of our calls checks the tables anew ({facts['big']['room 0'][4]:,} instructions), too much for as many calls as there are comments. So ours is counted in two parts:
 {few:.2f} a byte on all comments with one label in {facts['few']}, and {added:.2f} that the other labels add, on one comment in {facts['every']} ({facts['sample']:,} of them, {facts['sample_bytes']:,} bytes).
 
+## Links
+
+The links of all comments to the {labels:,} labels, counted in the same two parts. set.mm has {facts['labels'][0]:,} Label events, whose texts have {facts['labels'][1]:,} bytes. The Rust has no such call.
+At most: the events' count, and {A_LABEL} instructions a label and {A_LABEL_BYTE} a byte of its text. The last column is what a label takes beside the events and those {A_LABEL_BYTE}.
+
+{table(["", "events", "one label in " + str(facts['few']), "the others add", "links", "at most", "", "a label"], links_rows(facts))}
 ## A page
 
 The largest comment of set.mm before a theorem ({facts['largest']:,} bytes), with the tables above. A third of a second at 400 MHz is {PAGE:,} instructions.
 
-{table(["", "events", "parentheticals", "check", "tables' check", "together", "", "times under"], big_rows(facts["big"]))}
+{table(["", *PARTS, "together", "", "times under"], big_rows(facts["big"]))}
 ## No square
 
-65,536 bytes of each, repeated. Growth: the cost a byte over that at 16,384 bytes, the greatest of the three calls, the tables' check apart; at most {GROWTH}. The most of any is {worst:,}: {under(worst)} the page's {PAGE:,}. The greatest growth is {grown:.3f}.
+65,536 bytes of each, repeated. Growth: the cost a byte over that at 16,384 bytes, the greatest of the four calls, the tables' checks apart; at most {GROWTH}. The most of any is {worst:,}: {under(worst)} the page's {PAGE:,}. The greatest growth is {grown:.3f}.
 
-{table(["bytes", "events", "parentheticals", "check", "tables' check", "together", "growth", "room enough, together", ""], square_rows(squares))}
+{table(["bytes", *PARTS, "together", "growth", "room enough, together", ""], square_rows(squares))}
 The Rust's events on the first: {facts['rust_square']:,}.
 
 ## Stack and lent bytes
