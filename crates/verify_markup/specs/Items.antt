@@ -23,7 +23,7 @@ abbrev pub noTag : Tags → List ℕ → Bool
 noTag (lookedUp tagEntry) tag = isMissing (tagEntry tag)
 noTag notLookedUp tag = false
 
--- where tokens and labels stand, unescaped, and whether tags are looked up
+-- the lookups of tokens and labels, by their unescaped text, and whether tags are looked up
 pub record Names : Type 0 where
   pub symbol : Lookup
   pub label : Lookup
