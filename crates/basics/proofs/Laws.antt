@@ -1,4 +1,4 @@
--- Laws about no byte and no rule: what cannot be, a choice by its arms, two of which neither is there, and the part of a text from a place on.
+-- Laws about no byte and no rule: what cannot be, a choice by its arms, the first of two that is there, and the part of a text from a place on.
 -- Assumes nothing.
 use Prim.Native.Nat.{ℕ, _-_}
 use mathlib.Core.Path.{_≡_, refl}
@@ -34,7 +34,14 @@ pub by-place : {A : Type 0} (P : A → Type 0) (c : Place) {x : ℕ → A} {y : 
 by-place P (At q) f g = f q refl
 by-place P Nowhere f g = g refl
 
--- where the first of two that is there is missing, both are
+-- the first of two that is there: the one, or, where that is missing, the other
+pub the-one : {A : Type 0} {x : Option A} (y : Option A) (a : A) → some a ≡ x → some a ≡ orElse x y
+the-one y a e = rw (← e)
+
+pub the-other : {A : Type 0} {x : Option A} (y : Option A) → none ≡ x → y ≡ orElse x y
+the-other y e = rw (← e)
+
+-- where it is missing, both are
 pub both-none : {A : Type 0} (a b : Option A) → none ≡ orElse a b → (none ≡ a) × (none ≡ b)
 both-none none b h = (refl, h)
 both-none (some a) b h = absurd (differ cc)

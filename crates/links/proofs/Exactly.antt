@@ -6,6 +6,7 @@ use mathlib.Core.List.{List, [], _∷_, List·Memᴰ·head, List·Memᴰ·tail, 
 use mathlib.Core.Logic.{_⊎_, inl, inr}
 use mathlib.Core.Option.{none}
 use lib.ListN.{length}
+use Rattle.basics.specs.Member.{In}
 use Rattle.basics.proofs.Laws.{both-none}
 use Rattle.byte_rules.specs.Reading.{rust}
 use Rattle.records.specs.Answer.{spanRefusal}
@@ -19,7 +20,7 @@ use Rattle.comment_parser.specs.Events.{eventsOf}
 use Rattle.comment_parser.specs.declared.CommentItem.{CommentItem}
 use Rattle.comment_parser.specs.declared.CommentItem.the-variants.{Text, LineBreak, StartMathMode, EndMathMode, MathToken, Label, Url, StartHtml, EndHtml, StartSubscript, EndSubscript, StartItalic, EndItalic, BibTag}
 use Rattle.links.specs.Links.{nameOf, linkTo, labelLinks, itemLinks, linksFrom, linksOf, linksRefusal}
-use Rattle.links.specs.Exactly.{In, ListedExactly}
+use Rattle.links.specs.Exactly.{ListedExactly}
 
 module _ (buf bytes ends : List ℕ) (a e k : ℕ) where
   -- the label's name has the record's entry

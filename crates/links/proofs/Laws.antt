@@ -1,15 +1,14 @@
--- What an event gives, the links along the events, and the refusals.
+-- What an event gives, and the links along the events.
 -- Assumes nothing.
 use Prim.Native.Nat.{ℕ, _≤_}
 use mathlib.Core.Path.{_≡_, refl, ap}
 use mathlib.Core.List.{List, [], _∷_}
-use mathlib.Core.Option.{none, some}
+use mathlib.Core.Option.{none}
 use native.Mathlib.Omega.{arith}
 use lib.ListN.{length}
 use types.Run.{OneOf, miss}
 use denote.Enum.Declared.{tagOf}
 use Rattle.byte_rules.specs.Reading.{rust}
-use Rattle.records.specs.Answer.{Answer, spanRefusal}
 use Rattle.records.proofs.Laws.{Wide}
 use Rattle.unescape.specs.Unescape.{part}
 use Rattle.unescape.specs.declared.Escape.the-variants as escape
@@ -28,7 +27,7 @@ use Rattle.comment_parser.specs.declared.ParserState.{ParserState}
 use Rattle.comment_parser.proofs.CommentItem.{the-type}
 use Rattle.comment_parser.proofs.Events.{events-on, events-end}
 use Rattle.comment_parser.proofs.Giving.{Giving}
-use Rattle.links.specs.Links.{linkWidth, nameOf, linkTo, labelLinks, itemLinks, linksFrom, linksOf, linksRefusal}
+use Rattle.links.specs.Links.{linkWidth, nameOf, linkTo, labelLinks, itemLinks, linksFrom, linksOf}
 
 -- ---- what an event gives
 
@@ -105,14 +104,3 @@ module _ (buf bytes ends : List ℕ) where
   pub links-start : (start end : ℕ) → linksOn (fresh start end) ≡ linksOf buf bytes ends start end
   unfolding linksOf eventsOf
   links-start start end = refl
-
--- ---- refusals
-
-module _ (buf bytes ends : List ℕ) (start end : ℕ) where
-  pub refused-span : (a : Answer) → some a ≡ spanRefusal (length buf) start end → some a ≡ linksRefusal buf bytes ends start end
-  unfolding linksRefusal
-  refused-span a e = rw (linksRefusal, ← e)
-
-  pub refused-table : none ≡ spanRefusal (length buf) start end → tableRefusal 1 bytes ends ≡ linksRefusal buf bytes ends start end
-  unfolding linksRefusal
-  refused-table good = rw (linksRefusal, ← good)

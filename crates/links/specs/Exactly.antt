@@ -2,19 +2,16 @@
 -- k of the table is its unescaped text. Proved in proofs/Exactly.antt.
 use Prim.Native.Nat.{ℕ, _<_}
 use mathlib.Core.Path.{_≡_}
-use mathlib.Core.List.{List, [], _∷_, List·Memᴰ}
+use mathlib.Core.List.{List, [], _∷_}
 use mathlib.Core.Option.{none}
 use lib.ListN.{length}
+use Rattle.basics.specs.Member.{In}
 use Rattle.byte_rules.specs.Reading.{rust}
 use Rattle.name_table.specs.Table.{nameAt}
 use Rattle.comment_parser.specs.Item.{span}
 use Rattle.comment_parser.specs.Events.{eventsOf}
 use Rattle.comment_parser.specs.declared.CommentItem.the-variants.{Label}
 use Rattle.links.specs.Links.{nameOf, linksOf, linksRefusal}
-
--- x is in the list
-abbrev pub In : {A : Type 0} → A → List A → Type 0
-In x xs = List·Memᴰ x xs
 
 module _ (buf bytes ends : List ℕ) (start end a e k : ℕ) where
   abbrev pub Listed : Type 0

@@ -8,6 +8,7 @@ use mathlib.Core.Option.{none}
 use lib.ListN.{length}
 use native.Mathlib.Omega.{arith}
 use borrow.Author.Needs.{needs}
+use Rattle.basics.proofs.Laws.{the-one, the-other}
 use Rattle.records.specs.Answer.{longest, checkedAnswer, spanRefusal}
 use Rattle.records.proofs.Answers.{span-accepted}
 use Rattle.records.proofs.Laying.{Laying, back, given-refused, given-done, given-short}
@@ -16,7 +17,7 @@ use Rattle.comment_parser.specs.Events.{left}
 use Rattle.comment_parser.proofs.Along.{along-end, along-less, along-inside}
 use Rattle.comment_parser.proofs.Giving.{Going, going-starts, going-on, going-ends}
 use Rattle.links.specs.Links.{linkWidth, linksOf, linksRefusal}
-use Rattle.links.proofs.Laws.{linksOn, links-given, links-start, refused-span, refused-table}
+use Rattle.links.proofs.Laws.{linksOn, links-given, links-start}
 use Rattle.links.proofs.links.Statement.{statement}
 use Rattle.links.proofs.links.Tie as tie
 
@@ -33,11 +34,12 @@ enum-known-why : tie.Need-enum-known-why Inv-loop μ-loop
 enum-known-why c = search needs
 
 returns : tie.Need-returns Inv-loop μ-loop
+unfolding linksRefusal
 returns c =
     let s = c .before .before .before in
     let a = s .before .before .before .before .before .args in
     let why = ap checkedAnswer (sym (c .before .why .given .1)) ∙ s .check-span .ensures in
-    given-refused _ _ linkWidth _ (a .out .now) (refused-span (a .buf .now) (a .lb .now) (a .le .now) (a .start) (a .end) _ why)
+    given-refused _ _ linkWidth _ (a .out .now) (the-one _ _ why)
 
 enum-told : tie.Need-enum-told Inv-loop μ-loop
 enum-told c = search needs
@@ -57,11 +59,12 @@ enum-known-why-2 : tie.Need-enum-known-why-2 Inv-loop μ-loop
 enum-known-why-2 c = search needs
 
 returns-2 : tie.Need-returns-2 Inv-loop μ-loop
+unfolding linksRefusal
 returns-2 c =
     let t = c .before .before .before in
     let a = entry (t .before) .args in
     let why = ap checkedAnswer (sym (c .before .why2 .given .1)) ∙ t .check-table .ensures in
-    given-refused _ _ linkWidth _ (a .out .now) (why ∙ refused-table (a .buf .now) (a .lb .now) (a .le .now) (a .start) (a .end) (span-good (t .before)))
+    given-refused _ _ linkWidth _ (a .out .now) (why ∙ the-other _ (span-good (t .before)))
 
 enum-told-2 : tie.Need-enum-told-2 Inv-loop μ-loop
 enum-told-2 c = search needs
@@ -78,7 +81,8 @@ module _ (c : tie.After-enum-told2 Inv-loop μ-loop) where
   table-good = ap checkedAnswer (sym (c .enum-told2 .given .1)) ∙ c .before .before .check-table .ensures
 
   good : let a = start .args in none ≡ linksRefusal (a .buf .now) (a .lb .now) (a .le .now) (a .start) (a .end)
-  good = let a = start .args in table-good ∙ refused-table (a .buf .now) (a .lb .now) (a .le .now) (a .start) (a .end) (span-good accepted)
+  unfolding linksRefusal
+  good = table-good ∙ the-other _ (span-good accepted)
 
   fits : (length (start .args .buf .now) ≤ longest) × (start .args .end ≤ length (start .args .buf .now))
   fits = let s = span-accepted _ _ _ (sym (span-good accepted)) in (s .0, s .2)
