@@ -4,6 +4,7 @@
 --     entry-is          there the entry that has the name is what the walk gives
 --     entry-end         there the end of an entry is not below its number
 --     searched-end      so an entry that the search gives fits a word, as its end does
+--     empty-good, empty-missing     a table of no name is not refused, and no name is found in it
 --     known-one         two outcomes of a lookup that its contract permits coincide
 -- Assumes nothing.
 use Prim.Native.Nat.{ℕ, zero, suc, _-_, _≤_, _<_}
@@ -17,8 +18,8 @@ use Rattle.basics.proofs.Laws.{differ}
 use Rattle.records.specs.Answer.{Answer}
 use Rattle.records.proofs.Answers.{coincide, readBack, refused-back}
 use Rattle.name_table.specs.Order.{orderOf}
-use Rattle.name_table.specs.Table.{endOf, startOf, nameAt, firstBad, refusedAt, tableRefusal}
-use Rattle.name_table.specs.Search.{entryOf, searched}
+use Rattle.name_table.specs.Table.{endOf, startOf, nameAt, badFrom, firstBad, refusedAt, tableRefusal}
+use Rattle.name_table.specs.Search.{entryFrom, entryOf, searched}
 use Rattle.name_table.specs.Lookup.{knownAnswer}
 use Rattle.name_table.specs.declared.Entry.{Entry}
 use Rattle.name_table.specs.declared.Entry.the-variants.{At, Nothing}
@@ -41,6 +42,15 @@ module _ (bytes ends name : List ℕ) where
 not-refused : (table : ℕ) (e : Entry) → none ≡ refusedAt table e → e ≡ Nothing
 not-refused table Nothing h = refl
 not-refused table (At i) h = absurd (differ cc)
+
+-- a table of no name
+pub empty-good : (table : ℕ) → none ≡ tableRefusal table [] []
+unfolding firstBad badFrom startOf
+empty-good table = refl
+
+pub empty-missing : (name : List ℕ) → entryOf [] [] name ≡ Nothing
+unfolding entryOf entryFrom
+empty-missing name = refl
 
 module _ (bytes ends : List ℕ) (table : ℕ) (good : none ≡ tableRefusal table bytes ends) where
   -- its names go up
