@@ -1,47 +1,20 @@
--- Laws of the check: its refusals, and that over tables that are not refused the search finds what the walk finds.
+-- Laws of the check: over tables that are not refused the search finds what the walk finds; and the answer, by the count and the room.
 -- Assumes nothing.
 use Prim.Native.Nat.{ℕ, _*_, _≤_, _<_}
 use mathlib.Core.Path.{_≡_, refl, ap, fun-ext}
 use mathlib.Core.List.{List}
-use mathlib.Core.Option.{Option, none, some}
+use mathlib.Core.Option.{Option, none}
 use lib.ListN.{length}
 use borrow.Author.Tests.{le-leb, lt-leb}
 use Rattle.basics.proofs.Laws.{both-none}
-use Rattle.records.specs.Answer.{Answer, done, short, spanRefusal}
+use Rattle.records.specs.Answer.{Answer, done, short}
 use Rattle.records.specs.Records.{laid, listAnswer, listLeft}
 use Rattle.records.proofs.Laying.{Given}
 use Rattle.name_table.specs.Search.{entryOf, searched}
 use Rattle.name_table.proofs.Laws.{searched-good}
 use Rattle.verify_markup.specs.Diag.{diagWidth}
 use Rattle.verify_markup.specs.Items.{lookedUp}
-use Rattle.verify_markup.specs.Check.{Table, Bibliography, lent, notLent, Tables, refusalOf, bibliographyRefusal, tablesRefusal, checkRefusal, tagsOf, namesBy}
-
--- ---- refusals
-
-module _ (buf : List ℕ) (start end : ℕ) (t : Tables) where
-  pub refused-span : (a : Answer) → some a ≡ spanRefusal (length buf) start end → some a ≡ checkRefusal buf start end t
-  unfolding checkRefusal
-  refused-span a e = rw (checkRefusal, ← e)
-
-  module _ (good : none ≡ spanRefusal (length buf) start end) where
-    pub refused-tables : tablesRefusal t ≡ checkRefusal buf start end t
-    unfolding checkRefusal
-    refused-tables = rw (checkRefusal, ← good)
-
--- the lowest table that is refused
-module _ (t : Tables) where
-  pub refused-first : (a : Answer) → some a ≡ refusalOf 1 (t .symbols) → some a ≡ tablesRefusal t
-  unfolding tablesRefusal
-  refused-first a e = rw (tablesRefusal, ← e)
-
-  module _ (good : none ≡ refusalOf 1 (t .symbols)) where
-    pub refused-second : (a : Answer) → some a ≡ refusalOf 2 (t .labels) → some a ≡ tablesRefusal t
-    unfolding tablesRefusal
-    refused-second a e = rw (tablesRefusal, ← good, ← e)
-
-    pub refused-third : none ≡ refusalOf 2 (t .labels) → bibliographyRefusal (t .bibliography) ≡ tablesRefusal t
-    unfolding tablesRefusal
-    refused-third good′ = rw (tablesRefusal, ← good, ← good′)
+use Rattle.verify_markup.specs.Check.{Table, Bibliography, lent, notLent, noTagLookup, Tables, refusalOf, bibliographyRefusal, tablesRefusal, tagsOf, namesBy}
 
 -- ---- good tables
 
@@ -51,6 +24,7 @@ table-good number t h = fun-ext (searched-good (t .bytes) (t .ends) number h)
 tags-good : (b : Bibliography) → none ≡ bibliographyRefusal b → tagsOf searched b ≡ tagsOf entryOf b
 tags-good (lent t) h = ap lookedUp (table-good 3 t h)
 tags-good notLent h = refl
+tags-good noTagLookup h = refl
 
 -- over good tables every name is looked up as the walk does
 pub names-good : (t : Tables) → none ≡ tablesRefusal t → namesBy searched t ≡ namesBy entryOf t

@@ -4,3 +4,4 @@ mod PlainTexts
 mod ItemLaws
 mod ListLaws
 mod CheckLaws
+mod Tags

@@ -8,6 +8,7 @@ use Rattle.records.specs.Answer.{Answer, spanRefusal}
 use Rattle.records.specs.Records.{listAnswer, listLeft}
 use Rattle.name_table.specs.Table.{tableRefusal}
 use Rattle.name_table.specs.Search.{Lookup, entryOf}
+use Rattle.name_table.specs.declared.Entry.the-variants.{Nothing}
 use Rattle.verify_markup.specs.Diag.{diagWidth}
 use Rattle.verify_markup.specs.List.{diagnostics}
 use Rattle.verify_markup.specs.Items.{Tags, lookedUp, notLookedUp, Names}
@@ -17,10 +18,11 @@ pub record Table : Type 0 where
   pub bytes : List ℕ
   pub ends : List ℕ
 
--- a bibliography is lent, or none is
+-- what a call says of the bibliography: here it is; there is none; or, by name, that tags are not looked up
 pub data Bibliography : Type 0 where
   lent : Table → Bibliography
   notLent : Bibliography
+  noTagLookup : Bibliography
 
 pub record Tables : Type 0 where
   pub symbols : Table
@@ -34,6 +36,7 @@ refusalOf number t = tableRefusal number (t .bytes) (t .ends)
 abbrev pub bibliographyRefusal : Bibliography → Option Answer
 bibliographyRefusal (lent t) = refusalOf 3 t
 bibliographyRefusal notLent = none
+bibliographyRefusal noTagLookup = none
 
 unfoldable pub tablesRefusal : Tables → Option Answer
 tablesRefusal t = orElse (refusalOf 1 (t .symbols)) (orElse (refusalOf 2 (t .labels)) (bibliographyRefusal (t .bibliography)))
@@ -42,10 +45,11 @@ tablesRefusal t = orElse (refusalOf 1 (t .symbols)) (orElse (refusalOf 2 (t .lab
 unfoldable pub checkRefusal : List ℕ → ℕ → ℕ → Tables → Option Answer
 checkRefusal buf start end t = orElse (spanRefusal (length buf) start end) (tablesRefusal t)
 
--- with a bibliography tags are looked up in it; with none they are not looked up
+-- tags are looked up in the bibliography; where there is none every tag is missing
 abbrev pub tagsOf : (List ℕ → List ℕ → Lookup) → Bibliography → Tags
 tagsOf look (lent t) = lookedUp (look (t .bytes) (t .ends))
-tagsOf look notLent = notLookedUp
+tagsOf look notLent = lookedUp (λ tag. Nothing)
+tagsOf look noTagLookup = notLookedUp
 
 -- the names of the tables, by a way to look a name up in a table
 abbrev pub namesBy : (List ℕ → List ℕ → Lookup) → Tables → Names

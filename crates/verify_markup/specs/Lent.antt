@@ -4,14 +4,14 @@ use Prim.Native.Nat.{ℕ}
 use mathlib.Core.List.{List}
 use Rattle.name_table.specs.Search.{searched}
 use Rattle.verify_markup.specs.Items.{Tags, Names}
-use Rattle.verify_markup.specs.Check.{Bibliography, lent, notLent, Tables, table, tables, tagsOf, namesBy}
+use Rattle.verify_markup.specs.Check.{Bibliography, lent, noTagLookup, Tables, table, tables, tagsOf, namesBy}
 use Rattle.verify_markup.specs.declared.TagLookup.{TagLookup}
 use Rattle.verify_markup.specs.declared.TagLookup.the-variants.{LookedUp, NotLookedUp}
 
--- the third table is looked at only where tags are looked up
+-- a table of tags, or the named choice, under which what stands in the table's place is not looked at
 abbrev pub bibliographyOf : TagLookup → List ℕ → List ℕ → Bibliography
 bibliographyOf LookedUp bytes ends = lent (table bytes ends)
-bibliographyOf NotLookedUp bytes ends = notLent
+bibliographyOf NotLookedUp bytes ends = noTagLookup
 
 abbrev pub lentTables : List ℕ → List ℕ → List ℕ → List ℕ → TagLookup → List ℕ → List ℕ → Tables
 lentTables sb se lb le tags bb be = tables sb se lb le (bibliographyOf tags bb be)

@@ -5,3 +5,4 @@ pub mod List
 pub mod Check
 pub mod Lent
 pub mod Bounds
+pub mod Tags

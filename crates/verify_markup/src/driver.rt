@@ -109,7 +109,7 @@ fn check_tables(
     }
 }
 
-// The comment check, with tags looked up in the third table or not looked up.
+// The comment check, with tags looked up in the third table or not looked up. An enum cannot hold a table, so it stands beside the choice.
 pub(crate) fn check(
     buf: &[u8],
     start: usize,

@@ -1,4 +1,5 @@
-// The comment check: diagnostics of a comment's markup, against lent tables of symbols, labels and, or not, a bibliography.
+// The comment check: diagnostics of a comment's markup, against lent tables of symbols, labels and a bibliography.
+// What is said of the bibliography is said by the call's name: here it is, there is none, or tags are not looked up.
 mod driver;
 mod items;
 mod kinds;
@@ -13,7 +14,7 @@ use records::Filled;
 ghost use mathlib.Core.Path.{_≡_};
 ghost use lib.ListN.{length};
 ghost use Rattle.records.specs.Answer.{filledAnswer};
-ghost use Rattle.verify_markup.specs.Check.{lent, notLent, table, tables, checkAnswer, checkLeft};
+ghost use Rattle.verify_markup.specs.Check.{lent, notLent, noTagLookup, table, tables, checkAnswer, checkLeft};
 
 // Where math and HTML were opened, if they are open.
 pub struct Modes {
@@ -21,7 +22,7 @@ pub struct Modes {
     pub html: Place,
 }
 
-// Whether tags are looked up in the third table.
+// Tags are looked up in the third table, or, by the named choice, not looked up.
 pub enum TagLookup {
     LookedUp,
     NotLookedUp,
@@ -63,8 +64,8 @@ pub fn verify_markup(
     )
 }
 
-// The same with no bibliography: tags are not looked up, and no third table is looked at.
-pub fn verify_markup_no_tags(
+// The same where no bibliography is lent, as with an empty one: every tag is undefined.
+pub fn verify_markup_without_bibliography(
     buf: &[u8],
     start: usize,
     end: usize,
@@ -81,17 +82,28 @@ pub fn verify_markup_no_tags(
         let t = tables (now (sb .entry)) (now (se .entry)) (now (lb .entry)) (now (le .entry)) notLent in
         ⌜ now (out .exit) ≡ checkLeft (now (buf .entry)) start end t (now (out .entry)) ⌝ }
 {
-    check(
-        buf,
-        start,
-        end,
-        sb,
-        se,
-        lb,
-        le,
-        TagLookup::NotLookedUp,
-        lb,
-        le,
-        out,
-    )
+    let tags = TagLookup::LookedUp;
+    check(buf, start, end, sb, se, lb, le, tags, b"", &[], out)
+}
+
+// The same for one who has no bibliography on purpose: tags are not looked up.
+pub fn verify_markup_no_tag_lookup(
+    buf: &[u8],
+    start: usize,
+    end: usize,
+    sb: &[u8],
+    se: &[u32],
+    lb: &[u8],
+    le: &[u32],
+    out: &mut [u32],
+) -> Filled
+    ensures answer { λ r.
+        let t = tables (now (sb .entry)) (now (se .entry)) (now (lb .entry)) (now (le .entry)) noTagLookup in
+        ⌜ filledAnswer r ≡ checkAnswer (now (buf .entry)) start end t (length (now (out .entry))) ⌝ }
+    ensures left { λ r.
+        let t = tables (now (sb .entry)) (now (se .entry)) (now (lb .entry)) (now (le .entry)) noTagLookup in
+        ⌜ now (out .exit) ≡ checkLeft (now (buf .entry)) start end t (now (out .entry)) ⌝ }
+{
+    let tags = TagLookup::NotLookedUp;
+    check(buf, start, end, sb, se, lb, le, tags, b"", &[], out)
 }

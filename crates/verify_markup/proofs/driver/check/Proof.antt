@@ -5,6 +5,7 @@ use mathlib.Core.Path.{_≡_, sym, ap, _∙_}
 use mathlib.Core.Option.{none}
 use native.Mathlib.Omega.{arith}
 use lib.ListN.{length}
+use Rattle.basics.proofs.Laws.{the-one, the-other}
 use Rattle.records.specs.Answer.{spanRefusal}
 use Rattle.records.proofs.Answers.{span-accepted}
 use Rattle.records.proofs.Laying.{given-refused}
@@ -14,7 +15,7 @@ use Rattle.verify_markup.specs.Items.{Names}
 use Rattle.verify_markup.specs.List.{diagnostics}
 use Rattle.verify_markup.specs.Check.{Tables, tablesRefusal, checkRefusal, namesBy}
 use Rattle.verify_markup.specs.Lent.{lentTables}
-use Rattle.verify_markup.proofs.CheckLaws.{refused-span, refused-tables, names-good, listed-done, listed-short}
+use Rattle.verify_markup.proofs.CheckLaws.{names-good, listed-done, listed-short}
 use Rattle.verify_markup.proofs.driver.check.Statement.{statement}
 use Rattle.verify_markup.proofs.driver.check.Tie as tie
 
@@ -25,7 +26,8 @@ enum-known-why : tie.Need-enum-known-why
 enum-known-why c = search needs
 
 returns : tie.Need-returns
-returns c = let s = c .before .before .before in given-refused _ _ diagWidth _ _ (refused-span _ _ _ _ _ (rw (c .before .why .given .1) at (s .check-span .ensures)))
+unfolding checkRefusal
+returns c = let s = c .before .before .before in given-refused _ _ diagWidth _ _ (the-one _ _ (rw (c .before .why .given .1) at (s .check-span .ensures)))
 
 enum-told : tie.Need-enum-told
 enum-told c = search needs
@@ -45,9 +47,10 @@ enum-known-why-2 : tie.Need-enum-known-why-2
 enum-known-why-2 c = search needs
 
 returns-2 : tie.Need-returns-2
+unfolding checkRefusal
 returns-2 c =
     let t = c .before .before .before in
-    given-refused _ _ diagWidth _ _ (rw (c .before .why2 .given .1) at (t .check-tables .ensures) ∙ refused-tables _ _ _ _ (span-good (t .before)))
+    given-refused _ _ diagWidth _ _ (rw (c .before .why2 .given .1) at (t .check-tables .ensures) ∙ the-other _ (span-good (t .before)))
 
 enum-told-2 : tie.Need-enum-told-2
 enum-told-2 c = search needs
@@ -61,7 +64,8 @@ module _ (c : tie.After-enum-told2) where
   tables-good = rw (c .enum-told2 .given .1) at (c .before .before .check-tables .ensures)
 
   good : none ≡ checkRefusal (entry (c .before .before .before) .args .buf .now) (entry (c .before .before .before) .args .start) (entry (c .before .before .before) .args .end) lent
-  good = tables-good ∙ refused-tables _ _ _ _ (span-good (c .before .before .before))
+  unfolding checkRefusal
+  good = tables-good ∙ the-other _ (span-good (c .before .before .before))
 
   all-same : let a = entry (c .before .before .before) .args in
       diagnostics (namesBy searched lent) (a .buf .now) (a .start) (a .end) ≡ diagnostics (namesBy entryOf lent) (a .buf .now) (a .start) (a .end)

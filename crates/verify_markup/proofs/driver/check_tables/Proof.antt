@@ -3,8 +3,9 @@
 use borrow.Author.Needs.{needs}
 use mathlib.Core.Path.{_≡_, _∙_}
 use mathlib.Core.Option.{none}
+use Rattle.basics.proofs.Laws.{the-one, the-other}
 use Rattle.name_table.specs.Table.{tableRefusal}
-use Rattle.verify_markup.proofs.CheckLaws.{refused-first, refused-second, refused-third}
+use Rattle.verify_markup.specs.Check.{tablesRefusal}
 use Rattle.verify_markup.proofs.driver.check_tables.Statement.{statement}
 use Rattle.verify_markup.proofs.driver.check_tables.Tie as tie
 
@@ -15,7 +16,8 @@ enum-known-why : tie.Need-enum-known-why
 enum-known-why c = search needs
 
 returns : tie.Need-returns
-returns c = refused-first _ _ (rw (c .before .why .given .1) at (c .before .before .before .check-table .ensures))
+unfolding tablesRefusal
+returns c = the-one _ _ (rw (c .before .why .given .1) at (c .before .before .before .check-table .ensures))
 
 enum-told : tie.Need-enum-told
 enum-told c = search needs
@@ -35,9 +37,10 @@ enum-known-why-2 : tie.Need-enum-known-why-2
 enum-known-why-2 c = search needs
 
 returns-2 : tie.Need-returns-2
+unfolding tablesRefusal
 returns-2 c =
     let second = c .before .before .before in
-    refused-second _ (symbols-good (second .before)) _ (rw (c .before .why2 .given .1) at (second .check-table2 .ensures))
+    the-one _ _ (rw (c .before .why2 .given .1) at (second .check-table2 .ensures)) ∙ the-other _ (symbols-good (second .before))
 
 enum-told-2 : tie.Need-enum-told-2
 enum-told-2 c = search needs
@@ -52,16 +55,18 @@ enum-told-4 : tie.Need-enum-told-4
 enum-told-4 c = search needs
 
 returns-3 : tie.Need-returns-3
+unfolding tablesRefusal
 returns-3 c =
     let second = c .before .before .before .before .before in
     let labels-good = rw (c .before .before .before .enum-told2 .given .1) at (second .check-table2 .ensures) in
-    rw (c .before .enum-told3 .given .1) (c .check-table3 .ensures ∙ refused-third _ (symbols-good (second .before)) labels-good)
+    rw (c .before .enum-told3 .given .1) (c .check-table3 .ensures ∙ the-other _ labels-good ∙ the-other _ (symbols-good (second .before)))
 
 returns-4 : tie.Need-returns-4
+unfolding tablesRefusal
 returns-4 c =
     let second = c .before .before .before .before in
     let labels-good = rw (c .before .before .enum-told2 .given .1) at (second .check-table2 .ensures) in
-    rw (c .enum-told4 .given .1) (refused-third _ (symbols-good (second .before)) labels-good)
+    rw (c .enum-told4 .given .1) (the-other _ labels-good ∙ the-other _ (symbols-good (second .before)))
 
 pub check-tables-spec : {M : Type 1} → statement M
 check-tables-spec =

@@ -1,0 +1,258 @@
+-- Which tags are reported: records of kind 8 are those of the undefined tags; no bibliography means an empty one; the named choice leaves kind 8 out.
+-- Assumes nothing.
+use Prim.Native.Nat.{ℕ, zero, suc, _+_, _-_}
+use mathlib.Core.Path.{_≡_, refl, sym, ap, _∙_, fun-ext}
+use mathlib.Core.Bool.{Bool, true, false, cond, _||_}
+use mathlib.Core.List.{List, [], _∷_, _++_, List·Memᴰ·head, List·Memᴰ·tail, List·Memᴰ·not-nil, List·Memᴰ·eq-of-singleton, List·Memᴰ·append-cases, Memᴰ·append-left, Memᴰ·append-right}
+use mathlib.Core.Logic.{_⊎_, inl, inr}
+use native.Mathlib.Omega.{arith}
+use lib.Dec.{ltb, eqb}
+use lib.ListN.{take}
+use borrow.Author.Tests.{ne-eqb}
+use Rattle.basics.specs.Member.{In}
+use Rattle.basics.specs.declared.Place.{Place}
+use Rattle.basics.specs.declared.Place.the-variants.{At, Nowhere}
+use Rattle.basics.proofs.Laws.{differ}
+use Rattle.byte_rules.specs.Reading.{rust}
+use Rattle.look.specs.Look.{byteAt}
+use Rattle.scans.specs.Marks.{tick, tilde}
+use Rattle.unescape.specs.Unescape.{isEscape, stepAt, unescaped, part}
+use Rattle.unescape.specs.declared.Escape.{Escape}
+use Rattle.unescape.specs.declared.Escape.the-variants as escape
+use Rattle.name_table.specs.Search.{Lookup, isMissing, entryOf}
+use Rattle.name_table.proofs.Laws.{empty-good, empty-missing}
+use Rattle.comment_parser.specs.Item.{span}
+use Rattle.comment_parser.specs.Events.{eventsOf}
+use Rattle.comment_parser.specs.declared.CommentItem.{CommentItem}
+use Rattle.comment_parser.specs.declared.CommentItem.the-variants.{Text, LineBreak, StartMathMode, EndMathMode, MathToken, Label, Url, StartHtml, EndHtml, StartSubscript, EndSubscript, StartItalic, EndItalic, BibTag}
+use Rattle.verify_markup.specs.Diag.{when, nonblankAt, nonblankBefore, spaceBefore, spaceAfter, uninterpretedEscape, undefinedBibTag, unclosedMathMarkup, unclosedHtml, bibEscape}
+use Rattle.verify_markup.specs.Texts.{loneAt, loneFrom, htmlFrom, htmlIn, written}
+use Rattle.verify_markup.specs.Items.{Names, lookedUp, notLookedUp, noTag, tokenDiags, tildeDiags, linkDiags, nameDiags, labelDiags, bibEscapes, tagDiags, itemDiags}
+use Rattle.verify_markup.specs.List.{isOpen, closed, modesAfter, unclosed, lastDiags, diagsFrom, diagnostics}
+use Rattle.verify_markup.specs.Check.{lent, notLent, noTagLookup, Tables, table, tables, tablesRefusal, checkRefusal, namesOf}
+use Rattle.verify_markup.specs.Tags.{kindOf, otherKinds, OfUndefined, ReportedExactly, SameCheck, WithoutIsEmpty, EveryTag, NothingElse, NoEight, NotLookedAt}
+use Rattle.verify_markup.specs.declared.Modes.{Modes}
+
+-- ---- records of other kinds
+
+-- no record has kind 8
+abbrev Others : List (List ℕ) → Type 0
+Others ws = (w : List ℕ) → In w ws → kindOf w ≡ 8 → ⊥
+
+others-none : Others []
+others-none w m k = List·Memᴰ·not-nil m
+
+others-append : (ws : List (List ℕ)) {vs : List (List ℕ)} → Others ws → Others vs → Others (ws ++ vs)
+others-append ws {vs} p q w m k = go (List·Memᴰ·append-cases ws m)
+  where
+    go : In w ws ⊎ In w vs → ⊥
+    go (inl h) = p w h k
+    go (inr h) = q w h k
+
+-- a record that is there by a test
+when-in : (t : Bool) (v w : List ℕ) → In w (when t v) → (w ≡ v) × (t ≡ true)
+when-in true v w m = (List·Memᴰ·eq-of-singleton m, refl)
+when-in false v w m = absurd (List·Memᴰ·not-nil m)
+
+others-when : (t : Bool) (v : List ℕ) → (kindOf v ≡ 8 → ⊥) → Others (when t v)
+others-when t v d w m k = d (rw (← when-in t v w m .0) k)
+
+-- with kind 8 left out they are the same, and of two lists together it is each without it
+kept : (ws : List (List ℕ)) → Others ws → otherKinds ws ≡ ws
+unfolding otherKinds
+kept [] p = refl
+kept (w ∷ ws) p = rw (ne-eqb (kindOf w) 8 (p w (List·Memᴰ·head refl)), kept ws (λ v m. p v (List·Memᴰ·tail m)))
+
+kinds-append : (ws vs : List (List ℕ)) → otherKinds (ws ++ vs) ≡ otherKinds ws ++ otherKinds vs
+unfolding otherKinds
+kinds-append [] vs = refl
+kinds-append (w ∷ ws) vs = go (eqb (kindOf w) 8) (kinds-append ws vs)
+  where
+    go : (b : Bool) → otherKinds (ws ++ vs) ≡ otherKinds ws ++ otherKinds vs → cond b (otherKinds (ws ++ vs)) (w ∷ otherKinds (ws ++ vs)) ≡ cond b (otherKinds ws) (w ∷ otherKinds ws) ++ otherKinds vs
+    go true h = h
+    go false h = ap (λ (rest : List (List ℕ)). w ∷ rest) h
+
+module _ (buf : List ℕ) where
+  others-lone : (kind : Escape) (e turns i : ℕ) → Others (loneFrom buf kind e turns i)
+  unfolding loneFrom
+  others-lone kind e zero i = others-none
+  others-lone kind e (suc turns) i = go (ltb i e) (others-lone kind e turns (i + stepAt (isEscape kind) buf i))
+    where
+      go : (b : Bool) {rest : List (List ℕ)} → Others rest → Others (cond b (when (loneAt buf kind i) (uninterpretedEscape buf i) ++ rest) [])
+      go true ih = others-append (when (loneAt buf kind i) (uninterpretedEscape buf i)) (others-when (loneAt buf kind i) _ (λ k. omega (arith, k))) ih
+      go false ih = others-none
+
+  others-html : (a e : ℕ) → Others (htmlIn buf a e)
+  unfolding htmlIn
+  others-html a e = let m = htmlFrom (take e buf) (e - a) a in others-when (ltb (m .start) (m .end)) _ (λ k. omega (arith, k))
+
+  others-written : (kind : Escape) (a e : ℕ) → Others (written buf kind a e)
+  unfolding written
+  others-written kind a e = others-append (loneFrom buf kind e (e - a) a) (others-lone kind e (e - a) a) (others-html a e)
+
+  others-before : (i : ℕ) → Others (spaceBefore buf i)
+  others-before i = others-when (nonblankBefore buf i) _ (λ k. omega (arith, k))
+
+  others-after : (i : ℕ) → Others (spaceAfter buf i)
+  others-after i = others-when (nonblankAt buf (i + 1)) _ (λ k. omega (arith, k))
+
+  others-token : (symbol : Lookup) (a e : ℕ) → Others (tokenDiags buf symbol a e)
+  unfolding tokenDiags
+  others-token symbol a e = others-when (isMissing (symbol (unescaped (isEscape escape.Math) (part buf a e)))) _ (λ k. omega (arith, k))
+
+  others-link : (i a e : ℕ) → Others (linkDiags buf i a e)
+  unfolding linkDiags tildeDiags
+  others-link i a e = others-append (tildeDiags buf i) (others-append (spaceBefore buf i) (others-before i) (others-after i)) (others-written escape.Label a e)
+
+  others-name : (label : Lookup) (i a e : ℕ) → Others (nameDiags buf label i a e)
+  unfolding nameDiags
+  others-name label i a e = go (eqb a e) (isMissing (label (unescaped (isEscape escape.Label) (part buf a e))))
+    where
+      go : (empty missing : Bool) → Others (cond empty ((5 ∷ i ∷ 0 ∷ 0 ∷ []) ∷ []) (when missing (6 ∷ a ∷ e ∷ 0 ∷ [])))
+      go true missing = others-when true _ (λ k. omega (arith, k))
+      go false missing = others-when missing _ (λ k. omega (arith, k))
+
+  others-label : (label : Lookup) (i a e : ℕ) → Others (labelDiags buf label i a e)
+  unfolding labelDiags
+  others-label label i a e = others-append (linkDiags buf i a e) (others-link i a e) (others-name label i a e)
+
+  others-escapes : (a e left i : ℕ) → Others (bibEscapes buf a e left i)
+  unfolding bibEscapes
+  others-escapes a e zero i = others-none
+  others-escapes a e (suc left) i =
+      others-append (when (byteAt buf i tick || byteAt buf i tilde) (bibEscape buf i a e)) (others-when (byteAt buf i tick || byteAt buf i tilde) _ (λ k. omega (arith, k))) (others-escapes a e left (i + 1))
+
+  others-last : (end : ℕ) (m : Modes) → Others (lastDiags buf end m)
+  unfolding lastDiags
+  others-last end m = others-append (unclosed (unclosedMathMarkup buf) end (m .math)) (go (unclosedMathMarkup buf) (λ i k. omega (arith, k)) (m .math)) (go (unclosedHtml buf) (λ i k. omega (arith, k)) (m .html))
+    where
+      go : (made : ℕ → ℕ → List ℕ) → ((i : ℕ) → kindOf (made i end) ≡ 8 → ⊥) → (p : Place) → Others (unclosed made end p)
+      go made d (At i) = others-when true (made i end) (d i)
+      go made d Nowhere = others-none
+
+  -- ---- kind 8
+
+  module _ (n : Names) where
+    -- the record is that of a tag among the events, which is missing
+    record Of (is : List CommentItem) (w : List ℕ) : Type 0 where
+      from : ℕ
+      to : ℕ
+      tag : In (BibTag (span from to)) is
+      same : w ≡ undefinedBibTag buf from to
+      missing : noTag (n .tags) (part buf from to) ≡ true
+
+    -- of an event, only a tag gives it
+    from-item : (html : Bool) (i : CommentItem) (is : List CommentItem) (w : List ℕ) → In w (itemDiags buf n html i) → kindOf w ≡ 8 → Of (i ∷ is) w
+    unfolding tagDiags
+    from-item html (Text s) is w m k = absurd (others-written (escape.Text html) (s .start) (s .end) w m k)
+    from-item html (LineBreak i) is w m k = absurd (others-none w m k)
+    from-item html (StartMathMode i) is w m k = absurd (others-after i w m k)
+    from-item html (EndMathMode i) is w m k = absurd (others-before i w m k)
+    from-item html (MathToken s) is w m k = absurd (others-token (n .symbol) (s .start) (s .end) w m k)
+    from-item html (Label i s) is w m k = absurd (others-label (n .label) i (s .start) (s .end) w m k)
+    from-item html (Url i s) is w m k = absurd (others-link i (s .start) (s .end) w m k)
+    from-item html (StartHtml i) is w m k = absurd (others-none w m k)
+    from-item html (EndHtml i) is w m k = absurd (others-none w m k)
+    from-item html (StartSubscript i) is w m k = absurd (others-none w m k)
+    from-item html (EndSubscript i) is w m k = absurd (others-none w m k)
+    from-item html (StartItalic i) is w m k = absurd (others-none w m k)
+    from-item html (EndItalic i) is w m k = absurd (others-none w m k)
+    from-item html (BibTag s) is w m k = go (List·Memᴰ·append-cases (bibEscapes buf (s .start) (s .end) (s .end - s .start) (s .start)) m)
+      where
+        go : In w (bibEscapes buf (s .start) (s .end) (s .end - s .start) (s .start)) ⊎ In w (when (noTag (n .tags) (part buf (s .start) (s .end))) (undefinedBibTag buf (s .start) (s .end))) → Of (BibTag s ∷ is) w
+        go (inl h) = absurd (others-escapes (s .start) (s .end) (s .end - s .start) (s .start) w h k)
+        go (inr h) =
+            let there = when-in (noTag (n .tags) (part buf (s .start) (s .end))) _ w h in
+            record { from = s .start; to = s .end; tag = List·Memᴰ·head refl; same = there .0; missing = there .1 }
+
+    from-diags : (end : ℕ) (m : Modes) (is : List CommentItem) (w : List ℕ) → In w (diagsFrom buf end n m is) → kindOf w ≡ 8 → Of is w
+    unfolding diagsFrom
+    from-diags end m [] w h k = absurd (others-last end m w h k)
+    from-diags end m (i ∷ is) w h k = go (List·Memᴰ·append-cases (itemDiags buf n (isOpen (m .html)) i) h) (from-diags end (modesAfter m i) is w)
+      where
+        go : In w (itemDiags buf n (isOpen (m .html)) i) ⊎ In w (diagsFrom buf end n (modesAfter m i) is) → (In w (diagsFrom buf end n (modesAfter m i) is) → kindOf w ≡ 8 → Of is w) → Of (i ∷ is) w
+        go (inl here) rest = from-item (isOpen (m .html)) i is w here k
+        go (inr later) rest =
+            let f = rest later k in
+            record { from = f .from; to = f .to; tag = List·Memᴰ·tail (f .tag); same = f .same; missing = f .missing }
+
+    -- and each that is missing gives it
+    to-diags : (end a e : ℕ) → noTag (n .tags) (part buf a e) ≡ true → (m : Modes) (is : List CommentItem) → In (BibTag (span a e)) is → In (undefinedBibTag buf a e) (diagsFrom buf end n m is)
+    unfolding diagsFrom tagDiags
+    to-diags end a e missing m (i ∷ is) (List·Memᴰ·head h) =
+        Memᴰ·append-left {s = itemDiags buf n (isOpen (m .html)) i} (diagsFrom buf end n (modesAfter m i) is)
+        (rw (← h) (Memᴰ·append-right (bibEscapes buf a e (e - a) a) (rw missing (List·Memᴰ·head refl))))
+    to-diags end a e missing m (i ∷ is) (List·Memᴰ·tail t) = Memᴰ·append-right (itemDiags buf n (isOpen (m .html)) i) (to-diags end a e missing (modesAfter m i) is t)
+
+    -- ---- with kind 8 left out
+
+    -- the same lookups, with tags not looked up
+    abbrev silent : Names
+    silent = record { symbol = n .symbol; label = n .label; tags = notLookedUp }
+
+    left-out-tag : (t : Bool) (a e : ℕ) → otherKinds (when t (undefinedBibTag buf a e)) ≡ []
+    unfolding otherKinds
+    left-out-tag true a e = refl
+    left-out-tag false a e = refl
+
+    left-out-item : (html : Bool) (i : CommentItem) → otherKinds (itemDiags buf n html i) ≡ itemDiags buf silent html i
+    unfolding tagDiags
+    left-out-item html (Text s) = kept _ (others-written (escape.Text html) (s .start) (s .end))
+    left-out-item html (LineBreak i) = kept _ others-none
+    left-out-item html (StartMathMode i) = kept _ (others-after i)
+    left-out-item html (EndMathMode i) = kept _ (others-before i)
+    left-out-item html (MathToken s) = kept _ (others-token (n .symbol) (s .start) (s .end))
+    left-out-item html (Label i s) = kept _ (others-label (n .label) i (s .start) (s .end))
+    left-out-item html (Url i s) = kept _ (others-link i (s .start) (s .end))
+    left-out-item html (StartHtml i) = kept _ others-none
+    left-out-item html (EndHtml i) = kept _ others-none
+    left-out-item html (StartSubscript i) = kept _ others-none
+    left-out-item html (EndSubscript i) = kept _ others-none
+    left-out-item html (StartItalic i) = kept _ others-none
+    left-out-item html (EndItalic i) = kept _ others-none
+    left-out-item html (BibTag s) =
+        let escapes = bibEscapes buf (s .start) (s .end) (s .end - s .start) (s .start) in
+        kinds-append escapes _ ∙ rw (kept _ (others-escapes (s .start) (s .end) (s .end - s .start) (s .start)), left-out-tag (noTag (n .tags) (part buf (s .start) (s .end))) (s .start) (s .end))
+
+    left-out : (end : ℕ) (m : Modes) (is : List CommentItem) → otherKinds (diagsFrom buf end n m is) ≡ diagsFrom buf end silent m is
+    unfolding diagsFrom
+    left-out end m [] = kept _ (others-last end m)
+    left-out end m (i ∷ is) = kinds-append (itemDiags buf n (isOpen (m .html)) i) (diagsFrom buf end n (modesAfter m i) is) ∙ rw (left-out-item (isOpen (m .html)) i, left-out end (modesAfter m i) is)
+
+pub reported-exactly : ReportedExactly
+unfolding diagnostics
+reported-exactly n buf start end = record {
+  only-when = λ w m k.
+      let f = from-diags buf n end closed (eventsOf rust buf start end) w m k in
+      record { from = f .from; to = f .to; is = f .same; undefined = record { tag = f .tag; missing = f .missing } };
+  whenever = λ a e u. to-diags buf n end a e (u .missing) closed (eventsOf rust buf start end) (u .tag);
+}
+
+-- ---- no bibliography, and the named choice
+
+-- checks with equal refusals and equal lookups agree
+same-check : {t u : Tables} → tablesRefusal t ≡ tablesRefusal u → namesOf t ≡ namesOf u → SameCheck t u
+unfolding checkRefusal
+same-check r n = record { answer = λ buf start end room. rw (r, n); left = λ buf start end room. rw (r, n) }
+
+pub without-is-empty : WithoutIsEmpty
+unfolding tablesRefusal
+without-is-empty sb se lb le = same-check (rw (← empty-good 3)) names
+  where
+    names : namesOf (tables sb se lb le notLent) ≡ namesOf (tables sb se lb le (lent (table [] [])))
+    names i = record { symbol = entryOf sb se; label = entryOf lb le; tags = ap lookedUp (sym (fun-ext empty-missing)) i }
+
+pub every-tag : EveryTag
+every-tag sb se lb le buf start end a e m = reported-exactly (namesOf (tables sb se lb le notLent)) buf start end .whenever a e (record { tag = m; missing = refl })
+
+pub nothing-else : NothingElse
+unfolding diagnostics
+nothing-else sb se lb le buf start end b = left-out buf (namesOf (tables sb se lb le b)) end closed (eventsOf rust buf start end)
+
+pub no-eight : NoEight
+no-eight sb se lb le buf start end w m k =
+    let f = reported-exactly (namesOf (tables sb se lb le noTagLookup)) buf start end .only-when w m k in
+    absurd (differ (let u = f .undefined .missing in cc))
+
+pub not-looked-at : NotLookedAt
+not-looked-at sb se lb le bb be = refl
