@@ -25,9 +25,11 @@ use Rattle.unescape.specs.Unescape.{unescaped}
 use Rattle.name_table.specs.Order.{orderOf}
 use Rattle.name_table.specs.Table.{startOf, notGreater, badAt, badFrom, firstBad}
 use Rattle.name_table.specs.Search.{entryFrom, entryOf}
+use Rattle.verify_markup.specs.Items.{bibEscapes, tagDiags}
+use Rattle.verify_markup.specs.List.{lastDiags, diagsFrom, diagnostics}
 use Rattle.links.specs.Links.{labelLinks, linksFrom, linksOf}
 use Rattle.samples.specs.Samples.{computed, table}
 
 pub samples : (a b c d e f g h i j k l : ℕ) → map computed (table a b c d e f g h i j k l) ≡ table a b c d e f g h i j k l
-unfolding isCreditSpace isAuthorByte byteOr within isTail isOne isTwo isThree isFour charLen spaceRun spacesAt signAt phraseAt fits pictureAt dateAt authorStart authorByte authorLen authorWithin authorEnd authorAfter headAt noticeAt tailAt restAt creditAt matchAt firstOf nextFrom bytesLeft stepFrom matchesFrom isBlank isCloser isItalicOpener isDigit isCapital isSmall isAlphanumeric barsNothing holdsAt isByte byteAt blankAt alphanumericAt closerAt italicOpenerAt doubledAt wordAt walk scan blanksStep tagStep subscriptStep italicStep tagEnd opensTag labelStopper htmlMark labelStep closesItalic subscriptEnd italicEnd isUrl stateRefusal turns produced blankBefore opensAhead beforeOpen afterClose afterLf labelItem tickRule mathRule tildeRule newlineRule htmlRule bracketRule opensItalic stepTo openUnder underRule plainRule textRule firstRule passAct runStart passStep endedAt pass runItem give readOn answered nextOf seen eventsFrom eventsOf digitsOn digits number names letterOf isMonthName monthIn monthOf fields readDate isLeap monthDays isCalendar isLabelEscape unescaped orderOf startOf notGreater badAt badFrom firstBad entryFrom entryOf labelLinks linksFrom linksOf
+unfolding isCreditSpace isAuthorByte byteOr within isTail isOne isTwo isThree isFour charLen spaceRun spacesAt signAt phraseAt fits pictureAt dateAt authorStart authorByte authorLen authorWithin authorEnd authorAfter headAt noticeAt tailAt restAt creditAt matchAt firstOf nextFrom bytesLeft stepFrom matchesFrom isBlank isCloser isItalicOpener isDigit isCapital isSmall isAlphanumeric barsNothing holdsAt isByte byteAt blankAt alphanumericAt closerAt italicOpenerAt doubledAt wordAt walk scan blanksStep tagStep subscriptStep italicStep tagEnd opensTag labelStopper htmlMark labelStep closesItalic subscriptEnd italicEnd isUrl stateRefusal turns produced blankBefore opensAhead beforeOpen afterClose afterLf labelItem tickRule mathRule tildeRule newlineRule htmlRule bracketRule opensItalic stepTo openUnder underRule plainRule textRule firstRule passAct runStart passStep endedAt pass runItem give readOn answered nextOf seen eventsFrom eventsOf digitsOn digits number names letterOf isMonthName monthIn monthOf fields readDate isLeap monthDays isCalendar isLabelEscape unescaped orderOf startOf notGreater badAt badFrom firstBad entryFrom entryOf bibEscapes tagDiags lastDiags diagsFrom diagnostics labelLinks linksFrom linksOf
 samples a b c d e f g h i j k l = refl

@@ -9,6 +9,7 @@ use Rattle.date.specs.Reading.{readAnswer}
 use Rattle.date.specs.Calendar.{isCalendar}
 use Rattle.parentheticals.specs.Records.{recordsOf}
 use Rattle.name_table.specs.Lookup.{lookupAnswer}
+use Rattle.verify_markup.specs.Check as markup
 use Rattle.links.specs.Links.{linksOf}
 use Rattle.comment_parser.specs.Item.{span}
 use Rattle.comment_parser.specs.Events.{eventsOf}
@@ -24,6 +25,8 @@ pub data Row : Type 0 where
   events : List ℕ → ℕ → ℕ → List CommentItem → Row
   -- the records of the parentheticals of the span from a to b of a buffer
   credits : List ℕ → ℕ → ℕ → List (List ℕ) → Row
+  -- the diagnostics of the span from a to b of a buffer with no symbols and no labels, by what is said of the bibliography
+  check : List ℕ → ℕ → ℕ → markup.Bibliography → List (List ℕ) → Row
   -- a name looked up in a table, by its bytes and ends
   lookup : List ℕ → List ℕ → List ℕ → Answer → Row
   -- the links of the span from a to b of a buffer to the labels of a table, by its bytes and ends
@@ -35,6 +38,7 @@ computed (date text answer) = date text (readAnswer text)
 computed (calendar y m d is) = calendar y m d (isCalendar (record { year = y; month = m; day = d }))
 computed (events buf a b items) = events buf a b (eventsOf rust buf a b)
 computed (credits buf a b records) = credits buf a b (recordsOf rust buf a b)
+computed (check buf a b bibliography records) = check buf a b bibliography (markup.checkDiags buf a b (markup.tables [] [] [] [] bibliography))
 computed (lookup names ends name answer) = lookup names ends name (lookupAnswer names ends name)
 computed (links buf a b names ends records) = links buf a b names ends (linksOf buf names ends a b)
 
@@ -85,4 +89,9 @@ table a b c d e f g h i j k l =
     ∷ links (bytes "~ ax-1 ~ a[[b ~ b") 0 17 (bytes "aa[bax-1") (1 ∷ 4 ∷ 8 ∷ []) ((2 ∷ 6 ∷ 2 ∷ []) ∷ (9 ∷ 13 ∷ 1 ∷ []) ∷ [])
     ∷ links (bytes "~ mmx") 0 5 (bytes "mmx") (3 ∷ []) []
     ∷ links (bytes "~") 0 1 [] (0 ∷ []) ((1 ∷ 1 ∷ 0 ∷ []) ∷ [])
+    -- a tag without a bibliography, with an empty one, with one that has it, and not looked up
+    ∷ check (bytes "[a]") 0 3 markup.notLent ((8 ∷ 1 ∷ 2 ∷ 0 ∷ []) ∷ [])
+    ∷ check (bytes "[a]") 0 3 (markup.lent (markup.table [] [])) ((8 ∷ 1 ∷ 2 ∷ 0 ∷ []) ∷ [])
+    ∷ check (bytes "[a]") 0 3 (markup.lent (markup.table (bytes "a") (1 ∷ []))) []
+    ∷ check (bytes "[a]") 0 3 markup.noTagLookup []
     ∷ []
