@@ -3,6 +3,7 @@ use crate::header::Header;
 use crate::lists::emit_list;
 use crate::output::Told;
 use crate::output::answered;
+use crate::output::no_case;
 use crate::tables::Tables;
 use crate::tables::ends_of;
 use crate::tables::names_of;
@@ -10,11 +11,12 @@ use programs::Output;
 use records::Filled;
 use verify_markup::DIAG_WIDTH;
 use verify_markup::verify_markup;
-use verify_markup::verify_markup_no_tags;
+use verify_markup::verify_markup_no_tag_lookup;
+use verify_markup::verify_markup_without_bibliography;
 ghost use lib.ListN.{length};
 ghost use Rattle.replay.specs.Tables.{Areas, Lent};
 
-// The check with the tables that stand, with or without the bibliography.
+// The check with the tables that stand. At flag 1 tags are not looked up; else they are, in the bibliography that is lent, or in none.
 fn check(
     h: Header,
     payload: &[u8],
@@ -31,12 +33,15 @@ fn check(
     let se = ends_of(ends, tables.symbols);
     let lb = names_of(names, tables.labels);
     let le = ends_of(ends, tables.labels);
+    if h.flag == 1 {
+        return verify_markup_no_tag_lookup(payload, start, end, sb, se, lb, le, words);
+    }
     if tables.has_bibliography {
         let bb = names_of(names, tables.bibliography);
         let be = ends_of(ends, tables.bibliography);
         return verify_markup(payload, start, end, sb, se, lb, le, bb, be, words);
     }
-    verify_markup_no_tags(payload, start, end, sb, se, lb, le, words)
+    verify_markup_without_bibliography(payload, start, end, sb, se, lb, le, words)
 }
 
 // The diagnostics of the span, listed in the words.
@@ -52,6 +57,9 @@ pub fn list_diagnostics(
 ) -> Told
     requires { ⌜ Lent tables × Areas (length (now names)) (length (now ends)) ⌝ }
 {
+    if 1 < h.flag {
+        return no_case(output);
+    }
     let filled = check(h, payload, tables, names, ends, words);
     answered(emit_list(output, out, b'C', DIAG_WIDTH, filled, words))
 }

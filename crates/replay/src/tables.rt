@@ -16,7 +16,7 @@ pub struct Table {
     pub last: usize,
 }
 
-// The tables that stand. Where no bibliography is lent the third is empty, and tags are not looked up.
+// The tables that stand. Where no bibliography is lent the third is empty.
 pub struct Tables {
     pub symbols: Table,
     pub labels: Table,
