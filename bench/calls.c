@@ -16,8 +16,8 @@ size_t call_unescape_text(_Bool html, BUF, uint8_t *out, size_t room);
 size_t call_unescape_label(BUF, uint8_t *out, size_t room);
 size_t call_unescape_math(BUF, uint8_t *out, size_t room);
 size_t call_verify_markup(BUF, NAMES(symbol), NAMES(label), NAMES(bib), uint32_t *out, size_t room);
-size_t call_verify_markup_no_tags(BUF, NAMES(symbol), NAMES(label), uint32_t *out, size_t room);
-
+size_t call_verify_markup_without_bibliography(BUF, NAMES(symbol), NAMES(label), uint32_t *out, size_t room);
+size_t call_verify_markup_no_tag_lookup(BUF, NAMES(symbol), NAMES(label), uint32_t *out, size_t room);
 size_t call_links(BUF, NAMES(label), uint32_t *out, size_t room);
 
 enum { WORDS = 524288, BYTES = 65536 };
@@ -48,11 +48,13 @@ static int lend(uint8_t number, uint32_t count, const uint8_t *payload, size_t n
     return 1;
 }
 
-static size_t check(BUF, size_t room)
+static size_t check(uint8_t flag, BUF, size_t room)
 {
+    if (flag == 1)
+        return call_verify_markup_no_tag_lookup(buf, n, start, end, TABLE(1), TABLE(2), words, room);
     if (has_bib)
         return call_verify_markup(buf, n, start, end, TABLE(1), TABLE(2), TABLE(3), words, room);
-    return call_verify_markup_no_tags(buf, n, start, end, TABLE(1), TABLE(2), words, room);
+    return call_verify_markup_without_bibliography(buf, n, start, end, TABLE(1), TABLE(2), words, room);
 }
 
 static size_t unescape(uint8_t flag, BUF, size_t room)
@@ -89,7 +91,7 @@ int main(void)
         else if (op == 'P')
             sum += call_parentheticals(payload, n, a, b, words, room ? WORDS : 0);
         else if (op == 'C')
-            sum += check(payload, n, a, b, room ? WORDS : 0);
+            sum += check(flag, payload, n, a, b, room ? WORDS : 0);
         else if (op == 'H')
             sum += call_links(payload, n, a, b, TABLE(2), words, room ? WORDS : 0);
         else if (op == 'U')

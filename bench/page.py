@@ -3,8 +3,9 @@
 # The calls that are counted beside the Rust: what each is called here, its op and flag.
 CALLS = [("events", "E", 0), ("parentheticals", "P", 0), ("unescape, Text", "U", 0), ("unescape, Text in HTML", "U", 1),
          ("unescape, label", "U", 2), ("unescape, math", "U", 3), ("check", "C", 0)]
-# What room is counted for: the ops and flags that are lent some.
-ROOMS = [(op, flag) for _, op, flag in CALLS] + [("H", 0)]
+# What room is counted for: the ops and flags that are lent some; and the check without a bibliography.
+ROOMS = [(op, flag) for _, op, flag in CALLS] + [("C", 1), ("H", 0)]
+WITHOUT = ("C", "without")
 # Links: at most the events' count, and so many instructions a label and a byte of its text.
 A_LABEL, A_LABEL_BYTE = 900, 12
 # Ours over the Rust's: at most, and the aim.
@@ -34,7 +35,8 @@ PUBLIC = [
     ("Discouragements::new", "call_discouragements", [BUFFER]),
     ("lookup, in the labels", "call_lookup", [2, "the name"]),
     ("verify_markup", "call_verify_markup", [BUFFER, ("C", 0), 1, 2, 3]),
-    ("verify_markup_no_tags", "call_verify_markup_no_tags", [BUFFER, ("C", 0), 1, 2]),
+    ("verify_markup_without_bibliography", "call_verify_markup_without_bibliography", [BUFFER, WITHOUT, 1, 2]),
+    ("verify_markup_no_tag_lookup", "call_verify_markup_no_tag_lookup", [BUFFER, ("C", 1), 1, 2]),
     ("links", "call_links", [BUFFER, ("H", 0), 2]),
     ("events_by_view; in it advance, View::open, View::next_item", "call_events_by_view", [BUFFER, ("E", 0)]),
     ("put_decimal", "call_put_decimal", ["at most 20 bytes of room"]),
