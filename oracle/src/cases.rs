@@ -8,6 +8,10 @@ pub const MOST_BYTES: u32 = 65_536;
 pub const MOST_WORDS: u32 = 524_288;
 /// Most bytes lent for text.
 pub const MOST_TEXT: u32 = 65_536;
+/// Op C's flag of the named choice: tags are not looked up, and table 3 is not looked at.
+pub const NO_TAG_LOOKUP: u8 = 1;
+/// Op C's flags: the check with the lent bibliography or without one, and the named choice.
+pub const CHECK_FLAGS: [u8; 2] = [0, NO_TAG_LOOKUP];
 
 const HEADER_BYTES: usize = 24;
 
@@ -78,7 +82,8 @@ impl Case {
     fn header_fits(&self, length: u32) -> bool {
         match self.op {
             b'T' => self.flag == 0 || self.flag <= 3 && self.a <= self.most_ends() && self.a * 4 <= length,
-            b'E' | b'P' | b'C' | b'H' => self.room <= MOST_WORDS,
+            b'E' | b'P' | b'H' => self.room <= MOST_WORDS,
+            b'C' => CHECK_FLAGS.contains(&self.flag) && self.room <= MOST_WORDS,
             b'S' => length >= STATE_BYTES,
             b'K' => self.is_date_triple(),
             b'W' => self.is_date_triple() && self.room <= MOST_TEXT,

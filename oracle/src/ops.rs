@@ -1,6 +1,6 @@
 //! What each op answers. Refusals come first and are document 01's; where none applies the crate is called.
 use crate::answers::{self, line, Out};
-use crate::cases::Case;
+use crate::cases::{Case, NO_TAG_LOOKUP};
 use crate::comment_parser::{CommentItem, CommentParser, Date, Discouragements, Parenthetical, ParentheticalIter};
 use crate::diag::Diagnostic;
 use crate::lent::{Bibliography, Database};
@@ -234,13 +234,17 @@ fn diagnostic_words(d: &Diagnostic) -> [u32; 4] {
     }
 }
 
+/// The check. Where no bibliography is lent the crate is given an empty one; by the named choice it is given none.
 fn check(case: &Case, tables: &Tables, out: &mut Out) {
     let Some(span) = span_of(case, &case.payload) else { return line(out, "C", &[2, 0]) };
-    if let Some((table, entry)) = tables.first_bad() {
+    let looks_up_tags = case.flag != NO_TAG_LOOKUP;
+    if let Some((table, entry)) = tables.first_bad(if looks_up_tags { 3 } else { 2 }) {
         return line(out, "C", &[4, u32::from(table), entry as u32]);
     }
     let db = Database { symbols: &tables.symbols, labels: &tables.labels };
-    let bib = tables.bibliography.as_ref().map(Bibliography);
+    let empty = Names::default();
+    let tags = tables.bibliography.as_ref().unwrap_or(&empty);
+    let bib = looks_up_tags.then_some(Bibliography(tags));
     let found = check_comment(&db, bib.as_ref(), &case.payload, span);
     let list: Vec<[u32; 4]> = found.iter().map(diagnostic_words).collect();
     answers::list(out, "C", &lay(&list, case.room), 4);

@@ -81,8 +81,8 @@ impl Tables {
         }
     }
 
-    /// The lowest malformed table and its first bad entry.
-    pub fn first_bad(&self) -> Option<(u8, usize)> {
-        (1..=3).find_map(|n| Some((n, self.get(n)?.first_bad()?)))
+    /// The lowest malformed table from 1 to `last`, and its first bad entry.
+    pub fn first_bad(&self, last: u8) -> Option<(u8, usize)> {
+        (1..=last).find_map(|n| Some((n, self.get(n)?.first_bad()?)))
     }
 }

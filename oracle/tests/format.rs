@@ -1,5 +1,5 @@
 //! What is ours and not the crate's: refusals and their order, rooms, tables, and what is no case.
-use oracle::cases::{Case, Next};
+use oracle::cases::{Case, Next, CHECK_FLAGS};
 use oracle::gen::{bad, sink::table, stepping::state_bytes};
 use oracle::{ops, tables::Tables};
 
@@ -125,9 +125,43 @@ fn the_check_tells_the_lowest_refusal() {
     let bad = |number| table(number, &[], b"a");
     let none = Case { op: b'T', ..Case::default() };
     let tag = case(b'C', 0, 3, 4, b"[a]");
-    let lent = [bad(3), tag.clone(), bad(2), tag.clone(), none.clone(), tag.clone(), table(2, &[], b""), tag.clone()];
-    assert_eq!(run_cases(&lent), "C 4 3 0\nC 4 2 0\nC 4 2 0\nC 0 0\n");
+    let lent = [bad(3), tag.clone(), bad(2), tag.clone(), none, tag.clone(), table(2, &[], b""), tag];
+    assert_eq!(run_cases(&lent), "C 4 3 0\nC 4 2 0\nC 4 2 0\nC 0 1\n8 1 2 0\n");
     assert_eq!(run_cases(&[bad(1), case(b'C', 0, 4, 0, b"[a]")]), "C 2 0\n");
-    assert_eq!(run_cases(&[table(3, &[], b""), tag.clone()]), "C 0 1\n8 1 2 0\n");
-    assert_eq!(run_cases(&[none, tag]), "C 0 0\n");
+}
+
+#[test]
+fn tags_of_the_check() {
+    let tag = |flag| Case { flag, ..case(b'C', 0, 3, 4, b"[a]") };
+    let [by_default, by_choice] = CHECK_FLAGS.map(tag);
+    let none = Case { op: b'T', ..Case::default() };
+    let (clean, undefined) = ("C 0 0\n", "C 0 1\n8 1 2 0\n");
+    // none at the start; a bibliography with the tag, one without it, an empty one; the tag's taken away again
+    let has_tag = table(3, &[1], b"a");
+    for (lent, answer) in [
+        (vec![], undefined),
+        (vec![has_tag.clone()], clean),
+        (vec![table(3, &[1], b"b")], undefined),
+        (vec![table(3, &[], b"")], undefined),
+        (vec![has_tag, none], undefined),
+    ] {
+        let cases = [&lent[..], &[by_default.clone(), by_choice.clone()]].concat();
+        assert_eq!(run_cases(&cases), [answer, clean].concat());
+    }
+    // malformed tables: by the named choice the third is not looked at
+    let bad = |number| table(number, &[], b"a");
+    assert_eq!(run_cases(&[bad(3), by_default.clone(), by_choice.clone()]), ["C 4 3 0\n", clean].concat());
+    for number in [1, 2] {
+        let told = format!("C 4 {number} 0\n");
+        let lent = [bad(number), bad(3), by_default.clone(), by_choice.clone()];
+        assert_eq!(run_cases(&lent), [&told[..], &told].concat());
+    }
+    // a short room, and a span that is none
+    let short = |flag| Case { room: 3, ..tag(flag) };
+    assert_eq!(run_cases(&CHECK_FLAGS.map(short)), ["C 7 1\n", clean].concat());
+    assert_eq!(run_cases(&[bad(1), Case { b: 4, ..by_choice }]), "C 2 0\n");
+    // another flag is no case
+    for flag in [2, 255] {
+        assert_eq!(run_cases(&[tag(flag), by_default.clone()]), "bad case\n");
+    }
 }

@@ -1,5 +1,5 @@
 //! The samples of document 01, marked or not, run through the oracle.
-use oracle::cases::Case;
+use oracle::cases::{Case, NO_TAG_LOOKUP};
 use oracle::gen::sink::table;
 use oracle::{ops, tables::Tables};
 
@@ -107,6 +107,14 @@ fn credit_samples() {
 fn escape_past_the_span() {
     assert_eq!(records(b'C', "a__", 0, 2), Vec::<String>::new());
     assert_eq!(records(b'C', "a_", 0, 2), ["2 1 0 0"]);
+}
+
+/// Request P5's: without a bibliography a tag is undefined; by the named choice it is not looked up.
+#[test]
+fn tags_without_a_bibliography() {
+    let case = span_case(b'C', "[a]", 0, 3);
+    assert_eq!(run(&case), "C 0 1\n8 1 2 0\n");
+    assert_eq!(run(&Case { flag: NO_TAG_LOOKUP, ..case }), "C 0 0\n");
 }
 
 /// After Text(0,4) the mode has turned: the parser's own call keeps both underscores.

@@ -102,6 +102,8 @@ fn no_cases() -> Vec<(&'static str, Case)> {
         ("room-over", Case { room: MOST_WORDS + 1, ..span_case(b'E', b"a", 0, 1) }),
         ("room-over", Case { room: MOST_WORDS + 1, ..span_case(b'P', b"a", 0, 1) }),
         ("room-over", Case { room: MOST_WORDS + 1, ..span_case(b'C', b"a", 0, 1) }),
+        ("flag-2", Case { flag: 2, ..span_case(b'C', b"a", 0, 1) }),
+        ("flag-255", Case { flag: 255, ..span_case(b'C', b"a", 0, 1) }),
         ("room-over", Case { room: MOST_WORDS + 1, ..span_case(b'H', b"a", 0, 1) }),
         ("flag-0", Case { op: b'N', ..Case::default() }),
         ("flag-4", Case { op: b'N', flag: 4, ..Case::default() }),
