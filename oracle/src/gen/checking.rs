@@ -5,7 +5,7 @@ use super::random::Rng;
 use super::sink::{span_case, Sink};
 use super::texts::{any_span, each_sequence, each_span, each_text, mutated};
 use super::Plan;
-use crate::cases::Case;
+use crate::cases::{Case, CHECK_FLAGS, NO_TAG_LOOKUP};
 
 const SYMBOLS: &[&str] = &["", "a", "`", "a`b", "ph", "->", "(", ")", "x", "_a"];
 const LABELS: &[&str] = &["a", "ax-1", "mp2", "x[A]", "a[b", "a`", "idi", "aa", "1__2", "a~"];
@@ -17,32 +17,49 @@ fn lend_all(sink: &mut Sink) {
     sink.lend(3, TAGS);
 }
 
-/// Every text over the alphabets, a piece shorter than for the events, and what a neighbour past the span changes.
+/// A check of a span.
+fn check(flag: u8, buf: &[u8], a: usize, b: usize) -> Case {
+    Case { flag, ..span_case(b'C', buf, a, b) }
+}
+
+/// Every text with a bibliography, and shorter ones without one and by the named choice.
 pub fn exhaustive(plan: &Plan, sink: &mut Sink) {
-    sink.put_roomed(span_case(b'C', b"` a ` ~ b [c]", 0, 13));
+    for flag in CHECK_FLAGS {
+        sink.put_roomed(check(flag, b"` a ` ~ b [c]", 0, 13));
+    }
     lend_all(sink);
-    each_text(plan.either(-1, 0), &mut |text, a, b| sink.put_roomed(span_case(b'C', text, a, b)));
+    every_text(plan, sink, plan.either(-1, 0), 0);
+    every_text(plan, sink, -2, NO_TAG_LOOKUP);
     sink.lend_no_bibliography();
-    each_text(-2, &mut |text, a, b| sink.put_roomed(span_case(b'C', text, a, b)));
-    sink.lend(3, TAGS);
+    for flag in CHECK_FLAGS {
+        every_text(plan, sink, -2, flag);
+    }
+}
+
+/// Every text over the alphabets, `more` pieces longer than for the events (or shorter), and what a neighbour past the span changes.
+fn every_text(plan: &Plan, sink: &mut Sink, more: isize, flag: u8) {
+    each_text(more, &mut |text, a, b| sink.put_roomed(check(flag, text, a, b)));
     // HTML marks in any case, in text, labels and tags
     let html: &[&[u8]] = &[b"<html>", b"</HTML>", b"<HtMl>", b"<HTML>", b"~ ", b"[", b"]", b"a", b" ", b"<html"];
-    each_sequence(html, plan.either(4, 5), &mut |text| sink.put_roomed(span_case(b'C', text, 0, text.len())));
+    each_sequence(html, plan.either(4, 5), &mut |text| sink.put_roomed(check(flag, text, 0, text.len())));
+    // tags, found in the bibliography and not, beside each mark
+    let tags: &[&[u8]] = &[b"[a]", b"[b]", b"[]", b"[", b"]", b"`", b"~ ", b"_", b" ", b"<HTML>"];
+    each_sequence(tags, plan.either(4, 5), &mut |text| sink.put_roomed(check(flag, text, 0, text.len())));
     // each escape beside each mark, in every span
     let escapes: &[&[u8]] = &[b"`", b"~", b"[", b"_", b"]", b" ", b"a"];
     each_sequence(escapes, plan.either(4, 5), &mut |text| {
-        each_span(text.len(), &mut |a, b| sink.put_roomed(span_case(b'C', text, a, b)));
+        each_span(text.len(), &mut |a, b| sink.put_roomed(check(flag, text, a, b)));
     });
     for byte in 0..=255u8 {
         for template in ["a`?a `", "a` a?`", "?` a `", "` a `?", "?~ a", "~?a", "~ a?", "[?]", "~ a?b ", "<htm?>", "?"]
         {
             let text: Vec<u8> = template.bytes().map(|c| if c == b'?' { byte } else { c }).collect();
-            sink.put_roomed(span_case(b'C', &text, 0, text.len()));
+            sink.put_roomed(check(flag, &text, 0, text.len()));
         }
     }
 }
 
-/// Comments with structure, with and without a bibliography, with every room now and then.
+/// Comments with structure, with and without a bibliography, one of three by the named choice, with every room now and then.
 pub fn random(plan: &Plan, sink: &mut Sink) {
     lend_all(sink);
     for round in 0..plan.either(60_000, 2_000_000) {
@@ -58,7 +75,8 @@ pub fn random(plan: &Plan, sink: &mut Sink) {
             text = mutated(&mut sink.rng, &text);
         }
         let (a, b) = any_span(&mut sink.rng, text.len());
-        let case = span_case(b'C', &text, a, b);
+        let flag = if sink.rng.percent(33) { NO_TAG_LOOKUP } else { 0 };
+        let case = check(flag, &text, a, b);
         if round % 50 == 0 {
             sink.put_every_room(case);
         } else {
@@ -67,20 +85,22 @@ pub fn random(plan: &Plan, sink: &mut Sink) {
     }
 }
 
-/// Random tables of each number, and comments put together from their names and from names beside them.
+/// Random tables of each number, and comments put together from their names and from names beside them, by both flags.
 pub fn tables(plan: &Plan, sink: &mut Sink) {
     let mut names: [Vec<Vec<u8>>; 3] = Default::default();
     for _ in 0..plan.either(5_000, 100_000) {
         let number = sink.rng.below(3);
         names[number] = (0..sink.rng.below(20)).map(|_| name(&mut sink.rng, 6)).collect();
         sink.lend(number as u8 + 1, &names[number]);
-        if sink.rng.percent(5) {
+        if sink.rng.percent(15) {
             names[2].clear();
             sink.lend_no_bibliography();
         }
         for _ in 0..4 {
             let text = of_names(&mut sink.rng, &names);
-            sink.put_roomed(span_case(b'C', &text, 0, text.len()));
+            for flag in CHECK_FLAGS {
+                sink.put_roomed(check(flag, &text, 0, text.len()));
+            }
         }
     }
 }
@@ -104,7 +124,7 @@ fn of_names(rng: &mut Rng, names: &[Vec<Vec<u8>>; 3]) -> Vec<u8> {
     text
 }
 
-/// Malformed tables of each number, several at once, with spans that are refused or not.
+/// Malformed tables of each number, several at once, with spans that are refused or not, by both flags.
 pub fn malformed(plan: &Plan, sink: &mut Sink) {
     for _ in 0..plan.either(12_000, 300_000) {
         let number = 1 + sink.rng.below(3) as u8;
@@ -120,6 +140,8 @@ pub fn malformed(plan: &Plan, sink: &mut Sink) {
         let text = comments::comment(&mut sink.rng);
         let (a, b) = any_span(&mut sink.rng, text.len());
         let room = [0, 4, 64][sink.rng.below(3)];
-        sink.put(&Case { room, ..span_case(b'C', &text, a, b) });
+        for flag in CHECK_FLAGS {
+            sink.put(&Case { room, ..check(flag, &text, a, b) });
+        }
     }
 }

@@ -2,7 +2,7 @@
 use super::sink::{span_case, Sink};
 use super::texts::{any_span, mutated};
 use super::Plan;
-use crate::cases::{Case, MOST_BYTES};
+use crate::cases::{Case, CHECK_FLAGS, MOST_BYTES};
 use std::collections::BTreeSet;
 
 /// What the streams need of a database.
@@ -110,8 +110,18 @@ fn credit_steps(sink: &mut Sink, buf: &[u8], a: usize, b: usize) {
     sink.put(&Case { c, ..span_case(b'Q', buf, a, b) });
 }
 
+/// The check by both flags.
 fn check(sink: &mut Sink, buf: &[u8], a: usize, b: usize) {
-    sink.put_roomed(span_case(b'C', buf, a, b));
+    for flag in CHECK_FLAGS {
+        sink.put_roomed(Case { flag, ..span_case(b'C', buf, a, b) });
+    }
+}
+
+/// The check of a comment that may hold a tag.
+fn check_tags(sink: &mut Sink, buf: &[u8], a: usize, b: usize) {
+    if buf.contains(&b'[') {
+        sink.put_roomed(span_case(b'C', buf, a, b));
+    }
 }
 
 fn link(sink: &mut Sink, buf: &[u8], a: usize, b: usize) {
@@ -169,9 +179,12 @@ fn lend_labels(plan: &Plan, sink: &mut Sink) {
     }
 }
 
+/// Each comment by both flags. Those that may hold a tag once more, without a bibliography: each call checks all labels.
 pub fn checks(plan: &Plan, sink: &mut Sink) {
     lend_all(plan, sink);
     as_they_are(plan, sink, check);
+    sink.lend_no_bibliography();
+    as_they_are(plan, sink, check_tags);
 }
 
 pub fn checks_mutated(plan: &Plan, sink: &mut Sink) {

@@ -3,7 +3,7 @@ use super::comments::long_comment;
 use super::sink::{span_case, table, Sink};
 use super::stepping::state_bytes;
 use super::Plan;
-use crate::cases::{Case, MOST_BYTES, MOST_TEXT, MOST_WORDS};
+use crate::cases::{Case, CHECK_FLAGS, MOST_BYTES, MOST_TEXT, MOST_WORDS};
 
 const MOST: usize = MOST_BYTES as usize;
 
@@ -41,9 +41,9 @@ fn large_texts(plan: &Plan, sink: &mut Sink) -> Vec<Vec<u8>> {
 }
 
 /// Every large text with rooms none, one short, exact and the most.
-fn at_limits(plan: &Plan, sink: &mut Sink, op: u8, most: u32, texts: &[Vec<u8>]) {
+fn at_limits(plan: &Plan, sink: &mut Sink, op: u8, flag: u8, most: u32, texts: &[Vec<u8>]) {
     for text in texts {
-        let mut case = span_case(op, text, 0, text.len());
+        let mut case = Case { flag, ..span_case(op, text, 0, text.len()) };
         let exact = sink.needed(&case);
         for room in [0, exact.saturating_sub(1), exact, most] {
             case.room = room;
@@ -63,7 +63,7 @@ fn at_limits(plan: &Plan, sink: &mut Sink, op: u8, most: u32, texts: &[Vec<u8>])
 
 pub fn events(plan: &Plan, sink: &mut Sink) {
     let texts = large_texts(plan, sink);
-    at_limits(plan, sink, b'E', MOST_WORDS, &texts);
+    at_limits(plan, sink, b'E', 0, MOST_WORDS, &texts);
 }
 
 pub fn parentheticals(plan: &Plan, sink: &mut Sink) {
@@ -78,7 +78,7 @@ pub fn parentheticals(plan: &Plan, sink: &mut Sink) {
         b" ",
     ];
     let texts: Vec<Vec<u8>> = credits.iter().map(|t| filled(t, plan.either(16_384, MOST))).collect();
-    at_limits(plan, sink, b'P', MOST_WORDS, &texts);
+    at_limits(plan, sink, b'P', 0, MOST_WORDS, &texts);
     // one author as long as a payload allows
     let author = filled(b"A ", MOST - 31);
     let text = [b"(Contributed by A", &author[..], b", 1-Jan-2020.)"].concat();
@@ -148,12 +148,19 @@ pub fn lookups(_: &Plan, sink: &mut Sink) {
     }
 }
 
+/// With a bibliography by both flags, and without one.
 pub fn checks(plan: &Plan, sink: &mut Sink) {
-    let texts = large_texts(plan, sink);
+    let mut texts = large_texts(plan, sink);
+    // a tag, found or not, in every three bytes
+    texts.extend([&b"[A]"[..], b"[B]"].map(|t| filled(t, MOST)));
     sink.lend(1, &["a", "ph"]);
     sink.lend(2, &["a", "ax-1"]);
     sink.lend(3, &["A"]);
-    at_limits(plan, sink, b'C', MOST_WORDS, &texts);
+    for flag in CHECK_FLAGS {
+        at_limits(plan, sink, b'C', flag, MOST_WORDS, &texts);
+    }
+    sink.lend_no_bibliography();
+    at_limits(plan, sink, b'C', 0, MOST_WORDS, &texts);
 }
 
 /// The most records, the largest table, the longest label, and tables that are bad as late as can be.
@@ -162,14 +169,14 @@ pub fn links(plan: &Plan, sink: &mut Sink) {
     let mut texts = large_texts(plan, sink);
     // a label, found, in every three bytes
     texts.extend([&b"~[]"[..], b"~a ", b"~a~~\n"].map(|t| filled(t, MOST)));
-    at_limits(plan, sink, b'H', MOST_WORDS, &texts);
+    at_limits(plan, sink, b'H', 0, MOST_WORDS, &texts);
     // the most ends and the most bytes at once: names of twelve bytes
     let names: Vec<String> = (0..131_072).map(|entry| format!("{entry:012x}")).collect();
     let ends: Vec<u32> = (1..=131_072).map(|count| 12 * count).collect();
     let bytes = names.concat().into_bytes();
     sink.put(&table(2, &ends, &bytes));
     let labels: String = names.iter().rev().step_by(31).chain(&names[..1]).map(|name| format!("~ {name} ")).collect();
-    at_limits(plan, sink, b'H', MOST_WORDS, &[labels.into_bytes()]);
+    at_limits(plan, sink, b'H', 0, MOST_WORDS, &[labels.into_bytes()]);
     // its last end one short; its last name as the one before
     let ask = span_case(b'H', b"~ a", 0, 3);
     let mut short = ends.clone();
