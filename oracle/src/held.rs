@@ -1,6 +1,6 @@
 //! Two runs' answers held against each other, case by case, and counted by op, answer, and kind of what was answered.
 use crate::answers::hex;
-use crate::cases::{Case, Next};
+use crate::cases::{Case, Next, NO_TAG_LOOKUP};
 use std::collections::BTreeMap;
 
 /// How many answers there were of each sort: op, what is counted, its value.
@@ -41,7 +41,7 @@ pub fn hold(mut cases: &[u8], left: &[u8], right: &[u8]) -> (Tally, Option<Diffe
             return (tally, Some(Difference { number, case, tables, left: owned(l), right: owned(r) }));
         }
         match l {
-            Some(answer) => count(&mut tally, &case, answer),
+            Some(answer) => count(&mut tally, &case, tags_of(&case, &tables), answer),
             None => break,
         }
     }
@@ -70,8 +70,18 @@ impl<'a> Answers<'a> {
     }
 }
 
-/// Counts one answer.
-fn count(tally: &mut Tally, case: &Case, answer: &[u8]) {
+/// What a check does with tags: 1 looks them up in the lent bibliography, 2 has none lent, 3 does not look them up.
+fn tags_of(case: &Case, tables: &BTreeMap<u8, Case>) -> &'static str {
+    let lent = tables.get(&3).is_some_and(|table| table.flag == 3);
+    match case.flag {
+        NO_TAG_LOOKUP => "3",
+        _ if lent => "1",
+        _ => "2",
+    }
+}
+
+/// Counts one answer; `tags` is told of a check.
+fn count(tally: &mut Tally, case: &Case, tags: &str, answer: &[u8]) {
     let text = String::from_utf8_lossy(answer);
     let mut lines = text.lines();
     let head: Vec<&str> = lines.next().unwrap_or("").split('\t').collect();
@@ -102,6 +112,12 @@ fn count(tally: &mut Tally, case: &Case, answer: &[u8]) {
     }
     if matches!(op, 'U' | 'V') {
         add("mode", &case.flag.to_string());
+    }
+    if op == 'C' {
+        add("tags", tags);
+        if lines.clone().any(|line| line.starts_with("8\t")) {
+            add("undefined tag", tags);
+        }
     }
     let kinds = match op {
         'E' | 'S' => "event",
