@@ -2,13 +2,26 @@
 use super::sink::{span_case, table, Sink};
 use super::stored_comments::comments;
 use super::texts::{each_sequence, each_span};
-use crate::cases::Case;
+use crate::cases::{Case, CHECK_FLAGS};
 
 /// Each diagnostic kind alone, in order, against the tables of `lend_few`.
 const ALONE: &[&str] = &["` a`", "a_ b", "<html>", "` c `", "~", "~ b", "[a``b]", "[B]", "` a ", "<HTML>"];
 
 /// All ten kinds in one comment.
 const TOGETHER: &str = "`c ` x_ y <html> ~ [a``B] ~ d <HTML> ` a";
+
+/// Tags: found in the bibliography of `lend_few` or not, empty, with escapes, and where other marks stand. Last no tag.
+const TAGGED: &[&str] = &[
+    "[a]",
+    "[B]",
+    "[]",
+    "[A] [b] [a] [B]",
+    "[a``b] [a``c] [a~]",
+    "~ a[A] ~ a[B] ~ [B]",
+    "<HTML>[A] [B]</HTML>",
+    "x_[A] y_[B]. _a [B] c_",
+    "` [B] ` [[B] [B ] [B",
+];
 
 fn lend_few(sink: &mut Sink) {
     sink.lend(1, &["a", "b", "a`b"]);
@@ -170,13 +183,34 @@ pub fn checks(sink: &mut Sink) {
     });
     sink.lend_no_bibliography();
     put(sink, "[B] [b~]", 0, 8, 64);
+    tags(sink);
     malformed(sink);
 }
 
-/// Each malformed table, and several at once: the lowest counts, and a span that is none counts before all.
+/// Tags by both flags: with a bibliography, with an empty one and without one.
+fn tags(sink: &mut Sink) {
+    let bibliographies: [fn(&mut Sink); 3] =
+        [lend_few, |sink| sink.put(&table(3, &[], b"")), |sink| sink.lend_no_bibliography()];
+    for lend in bibliographies {
+        lend(sink);
+        for flag in CHECK_FLAGS {
+            for text in TAGGED.iter().chain([&TOGETHER]) {
+                sink.put(&Case { flag, room: 64, ..span_case(b'C', text.as_bytes(), 0, text.len()) });
+            }
+            // every room, where 8 is all there is
+            for room in 0..=9 {
+                sink.put(&Case { flag, room, ..span_case(b'C', b"[B] [b]", 0, 7) });
+            }
+        }
+    }
+}
+
+/// Each malformed table, and several at once, by both flags: the lowest counts, and a span that is none counts before all.
 fn malformed(sink: &mut Sink) {
     let put = |sink: &mut Sink, a: usize, b: usize, room: u32| {
-        sink.put(&Case { room, ..span_case(b'C', b"` c ` [B]", a, b) });
+        for flag in CHECK_FLAGS {
+            sink.put(&Case { flag, room, ..span_case(b'C', b"` c ` [B]", a, b) });
+        }
     };
     for flag in 1..=3 {
         for (ends, names) in MALFORMED {
