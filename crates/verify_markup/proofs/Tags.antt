@@ -25,12 +25,12 @@ use Rattle.comment_parser.specs.Item.{span}
 use Rattle.comment_parser.specs.Events.{eventsOf}
 use Rattle.comment_parser.specs.declared.CommentItem.{CommentItem}
 use Rattle.comment_parser.specs.declared.CommentItem.the-variants.{Text, LineBreak, StartMathMode, EndMathMode, MathToken, Label, Url, StartHtml, EndHtml, StartSubscript, EndSubscript, StartItalic, EndItalic, BibTag}
-use Rattle.verify_markup.specs.Diag.{when, nonblankAt, nonblankBefore, spaceBefore, spaceAfter, uninterpretedEscape, undefinedBibTag, unclosedMathMarkup, unclosedHtml, bibEscape}
+use Rattle.verify_markup.specs.Diag.{when, nonblankAt, nonblankBefore, spaceBefore, spaceAfter, uninterpretedEscape, emptyLabel, unknownLabel, undefinedBibTag, unclosedMathMarkup, unclosedHtml, bibEscape}
 use Rattle.verify_markup.specs.Texts.{loneAt, loneFrom, htmlFrom, htmlIn, written}
 use Rattle.verify_markup.specs.Items.{Names, lookedUp, notLookedUp, noTag, tokenDiags, tildeDiags, linkDiags, nameDiags, labelDiags, bibEscapes, tagDiags, itemDiags}
 use Rattle.verify_markup.specs.List.{isOpen, closed, modesAfter, unclosed, lastDiags, diagsFrom, diagnostics}
 use Rattle.verify_markup.specs.Check.{lent, notLent, noTagLookup, Tables, table, tables, tablesRefusal, checkRefusal, namesOf}
-use Rattle.verify_markup.specs.Tags.{kindOf, otherKinds, OfUndefined, ReportedExactly, SameCheck, WithoutIsEmpty, EveryTag, NothingElse, NoEight, NotLookedAt}
+use Rattle.verify_markup.specs.Tags.{kindOf, otherKinds, ReportedExactly, SameCheck, WithoutIsEmpty, EveryTag, NothingElse, NoEight, NotLookedAt}
 use Rattle.verify_markup.specs.declared.Modes.{Modes}
 
 -- ---- records of other kinds
@@ -57,7 +57,7 @@ when-in false v w m = absurd (List·Memᴰ·not-nil m)
 others-when : (t : Bool) (v : List ℕ) → (kindOf v ≡ 8 → ⊥) → Others (when t v)
 others-when t v d w m k = d (rw (← when-in t v w m .0) k)
 
--- with kind 8 left out they are the same, and of two lists together it is each without it
+-- such records stay when kind 8 is left out; of two lists, one behind the other, it is left out of each
 kept : (ws : List (List ℕ)) → Others ws → otherKinds ws ≡ ws
 unfolding otherKinds
 kept [] p = refl
@@ -108,7 +108,7 @@ module _ (buf : List ℕ) where
   unfolding nameDiags
   others-name label i a e = go (eqb a e) (isMissing (label (unescaped (isEscape escape.Label) (part buf a e))))
     where
-      go : (empty missing : Bool) → Others (cond empty ((5 ∷ i ∷ 0 ∷ 0 ∷ []) ∷ []) (when missing (6 ∷ a ∷ e ∷ 0 ∷ [])))
+      go : (empty missing : Bool) → Others (cond empty (emptyLabel buf i ∷ []) (when missing (unknownLabel buf a e)))
       go true missing = others-when true _ (λ k. omega (arith, k))
       go false missing = others-when missing _ (λ k. omega (arith, k))
 
@@ -130,7 +130,7 @@ module _ (buf : List ℕ) where
       go made d (At i) = others-when true (made i end) (d i)
       go made d Nowhere = others-none
 
-  -- ---- kind 8
+  -- ---- a tag, and any other event
 
   module _ (n : Names) where
     -- the record is that of a tag among the events, which is missing
@@ -141,29 +141,60 @@ module _ (buf : List ℕ) where
       same : w ≡ undefinedBibTag buf from to
       missing : noTag (n .tags) (part buf from to) ≡ true
 
-    -- of an event, only a tag gives it
-    from-item : (html : Bool) (i : CommentItem) (is : List CommentItem) (w : List ℕ) → In w (itemDiags buf n html i) → kindOf w ≡ 8 → Of (i ∷ is) w
+    -- a tag
+    from-tag : (a e : ℕ) (is : List CommentItem) (w : List ℕ) → In w (tagDiags buf (n .tags) a e) → kindOf w ≡ 8 → Of (BibTag (span a e) ∷ is) w
     unfolding tagDiags
-    from-item html (Text s) is w m k = absurd (others-written (escape.Text html) (s .start) (s .end) w m k)
-    from-item html (LineBreak i) is w m k = absurd (others-none w m k)
-    from-item html (StartMathMode i) is w m k = absurd (others-after i w m k)
-    from-item html (EndMathMode i) is w m k = absurd (others-before i w m k)
-    from-item html (MathToken s) is w m k = absurd (others-token (n .symbol) (s .start) (s .end) w m k)
-    from-item html (Label i s) is w m k = absurd (others-label (n .label) i (s .start) (s .end) w m k)
-    from-item html (Url i s) is w m k = absurd (others-link i (s .start) (s .end) w m k)
-    from-item html (StartHtml i) is w m k = absurd (others-none w m k)
-    from-item html (EndHtml i) is w m k = absurd (others-none w m k)
-    from-item html (StartSubscript i) is w m k = absurd (others-none w m k)
-    from-item html (EndSubscript i) is w m k = absurd (others-none w m k)
-    from-item html (StartItalic i) is w m k = absurd (others-none w m k)
-    from-item html (EndItalic i) is w m k = absurd (others-none w m k)
-    from-item html (BibTag s) is w m k = go (List·Memᴰ·append-cases (bibEscapes buf (s .start) (s .end) (s .end - s .start) (s .start)) m)
+    from-tag a e is w m k = go (List·Memᴰ·append-cases (bibEscapes buf a e (e - a) a) m)
       where
-        go : In w (bibEscapes buf (s .start) (s .end) (s .end - s .start) (s .start)) ⊎ In w (when (noTag (n .tags) (part buf (s .start) (s .end))) (undefinedBibTag buf (s .start) (s .end))) → Of (BibTag s ∷ is) w
-        go (inl h) = absurd (others-escapes (s .start) (s .end) (s .end - s .start) (s .start) w h k)
+        go : In w (bibEscapes buf a e (e - a) a) ⊎ In w (when (noTag (n .tags) (part buf a e)) (undefinedBibTag buf a e)) → Of (BibTag (span a e) ∷ is) w
+        go (inl h) = absurd (others-escapes a e (e - a) a w h k)
         go (inr h) =
-            let there = when-in (noTag (n .tags) (part buf (s .start) (s .end))) _ w h in
-            record { from = s .start; to = s .end; tag = List·Memᴰ·head refl; same = there .0; missing = there .1 }
+            let there = when-in (noTag (n .tags) (part buf a e)) _ w h in
+            record { from = a; to = e; tag = List·Memᴰ·head refl; same = there .0; missing = there .1 }
+
+    left-out-tag : (a e : ℕ) → otherKinds (tagDiags buf (n .tags) a e) ≡ tagDiags buf notLookedUp a e
+    unfolding tagDiags otherKinds
+    left-out-tag a e = kinds-append (bibEscapes buf a e (e - a) a) _ ∙ rw (kept _ (others-escapes a e (e - a) a)) (go (noTag (n .tags) (part buf a e)))
+      where
+        go : (t : Bool) → bibEscapes buf a e (e - a) a ++ otherKinds (when t (undefinedBibTag buf a e)) ≡ bibEscapes buf a e (e - a) a ++ []
+        go true = refl
+        go false = refl
+
+    -- the same lookups, with tags not looked up
+    abbrev silent : Names
+    silent = record { symbol = n .symbol; label = n .label; tags = notLookedUp }
+
+    -- an event is a tag, or gives no record of kind 8, and the same whether tags are looked up or not
+    abbrev IsTag : CommentItem → Type 0
+    IsTag i = (a : ℕ) × ((e : ℕ) × (BibTag (span a e) ≡ i))
+
+    abbrev NoTag : Bool → CommentItem → Type 0
+    NoTag html i = Others (itemDiags buf n html i) × (itemDiags buf n html i ≡ itemDiags buf silent html i)
+
+    tag-or-not : (html : Bool) (i : CommentItem) → IsTag i ⊎ NoTag html i
+    tag-or-not html (Text s) = inr (others-written (escape.Text html) (s .start) (s .end), refl)
+    tag-or-not html (LineBreak i) = inr (others-none, refl)
+    tag-or-not html (StartMathMode i) = inr (others-after i, refl)
+    tag-or-not html (EndMathMode i) = inr (others-before i, refl)
+    tag-or-not html (MathToken s) = inr (others-token (n .symbol) (s .start) (s .end), refl)
+    tag-or-not html (Label i s) = inr (others-label (n .label) i (s .start) (s .end), refl)
+    tag-or-not html (Url i s) = inr (others-link i (s .start) (s .end), refl)
+    tag-or-not html (StartHtml i) = inr (others-none, refl)
+    tag-or-not html (EndHtml i) = inr (others-none, refl)
+    tag-or-not html (StartSubscript i) = inr (others-none, refl)
+    tag-or-not html (EndSubscript i) = inr (others-none, refl)
+    tag-or-not html (StartItalic i) = inr (others-none, refl)
+    tag-or-not html (EndItalic i) = inr (others-none, refl)
+    tag-or-not html (BibTag s) = inl (s .start, (s .end, refl))
+
+    -- ---- from a record of kind 8 to its tag, and back
+
+    from-item : (html : Bool) (i : CommentItem) (is : List CommentItem) (w : List ℕ) → In w (itemDiags buf n html i) → kindOf w ≡ 8 → Of (i ∷ is) w
+    from-item html i is w m k = go (tag-or-not html i)
+      where
+        go : IsTag i ⊎ NoTag html i → Of (i ∷ is) w
+        go (inl t) = rw (← t .1 .1) (from-tag (t .0) (t .1 .0) is w (rw (← t .1 .1) at m) k)
+        go (inr others) = absurd (others .0 w m k)
 
     from-diags : (end : ℕ) (m : Modes) (is : List CommentItem) (w : List ℕ) → In w (diagsFrom buf end n m is) → kindOf w ≡ 8 → Of is w
     unfolding diagsFrom
@@ -176,7 +207,6 @@ module _ (buf : List ℕ) where
             let f = rest later k in
             record { from = f .from; to = f .to; tag = List·Memᴰ·tail (f .tag); same = f .same; missing = f .missing }
 
-    -- and each that is missing gives it
     to-diags : (end a e : ℕ) → noTag (n .tags) (part buf a e) ≡ true → (m : Modes) (is : List CommentItem) → In (BibTag (span a e)) is → In (undefinedBibTag buf a e) (diagsFrom buf end n m is)
     unfolding diagsFrom tagDiags
     to-diags end a e missing m (i ∷ is) (List·Memᴰ·head h) =
@@ -186,33 +216,12 @@ module _ (buf : List ℕ) where
 
     -- ---- with kind 8 left out
 
-    -- the same lookups, with tags not looked up
-    abbrev silent : Names
-    silent = record { symbol = n .symbol; label = n .label; tags = notLookedUp }
-
-    left-out-tag : (t : Bool) (a e : ℕ) → otherKinds (when t (undefinedBibTag buf a e)) ≡ []
-    unfolding otherKinds
-    left-out-tag true a e = refl
-    left-out-tag false a e = refl
-
     left-out-item : (html : Bool) (i : CommentItem) → otherKinds (itemDiags buf n html i) ≡ itemDiags buf silent html i
-    unfolding tagDiags
-    left-out-item html (Text s) = kept _ (others-written (escape.Text html) (s .start) (s .end))
-    left-out-item html (LineBreak i) = kept _ others-none
-    left-out-item html (StartMathMode i) = kept _ (others-after i)
-    left-out-item html (EndMathMode i) = kept _ (others-before i)
-    left-out-item html (MathToken s) = kept _ (others-token (n .symbol) (s .start) (s .end))
-    left-out-item html (Label i s) = kept _ (others-label (n .label) i (s .start) (s .end))
-    left-out-item html (Url i s) = kept _ (others-link i (s .start) (s .end))
-    left-out-item html (StartHtml i) = kept _ others-none
-    left-out-item html (EndHtml i) = kept _ others-none
-    left-out-item html (StartSubscript i) = kept _ others-none
-    left-out-item html (EndSubscript i) = kept _ others-none
-    left-out-item html (StartItalic i) = kept _ others-none
-    left-out-item html (EndItalic i) = kept _ others-none
-    left-out-item html (BibTag s) =
-        let escapes = bibEscapes buf (s .start) (s .end) (s .end - s .start) (s .start) in
-        kinds-append escapes _ ∙ rw (kept _ (others-escapes (s .start) (s .end) (s .end - s .start) (s .start)), left-out-tag (noTag (n .tags) (part buf (s .start) (s .end))) (s .start) (s .end))
+    left-out-item html i = go (tag-or-not html i)
+      where
+        go : IsTag i ⊎ NoTag html i → otherKinds (itemDiags buf n html i) ≡ itemDiags buf silent html i
+        go (inl t) = rw (← t .1 .1) (left-out-tag (t .0) (t .1 .0))
+        go (inr others) = kept _ (others .0) ∙ others .1
 
     left-out : (end : ℕ) (m : Modes) (is : List CommentItem) → otherKinds (diagsFrom buf end n m is) ≡ diagsFrom buf end silent m is
     unfolding diagsFrom
