@@ -187,9 +187,12 @@ pub fn checks(plan: &Plan, sink: &mut Sink) {
     as_they_are(plan, sink, check_tags);
 }
 
+/// The same of comments with changes.
 pub fn checks_mutated(plan: &Plan, sink: &mut Sink) {
     lend_all(plan, sink);
     with_changes(plan, sink, 4, check);
+    sink.lend_no_bibliography();
+    with_changes(plan, sink, 4, check_tags);
 }
 
 pub fn links(plan: &Plan, sink: &mut Sink) {
