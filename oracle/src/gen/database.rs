@@ -187,7 +187,7 @@ pub fn checks(plan: &Plan, sink: &mut Sink) {
     as_they_are(plan, sink, check_tags);
 }
 
-/// The same of comments with changes.
+/// The same of comments with a few bytes changed, for the checks without a bibliography changed anew.
 pub fn checks_mutated(plan: &Plan, sink: &mut Sink) {
     lend_all(plan, sink);
     with_changes(plan, sink, 4, check);
