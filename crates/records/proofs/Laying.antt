@@ -96,7 +96,17 @@ pub given-refused : (a : Answer) (r : Option Answer) (k : ℕ) (ws : List (List 
 unfolding listAnswer listLeft
 given-refused a r k ws out e = rw (← e) (refl, refl)
 
--- at the end nothing is to come
+-- all is counted and laid: whether it fits decides the answer
+module _ (k : ℕ) (ws : List (List ℕ)) (out₀ : List ℕ) {out : List ℕ} {n : ℕ} (counted : n ≡ length ws) (is : out ≡ laid k ws out₀) (r : Option Answer) (good : none ≡ r) where
+  pub listed-done : k * n ≤ length out₀ → Given (done n) out r k ws out₀
+  unfolding listAnswer listLeft
+  listed-done h = rw (← good, ← counted) (simp (le-leb _ _ h), is)
+
+  pub listed-short : length out₀ < k * n → Given (short n) out r k ws out₀
+  unfolding listAnswer listLeft
+  listed-short h = rw (← good, ← counted) (simp (lt-leb _ _ h), is)
+
+-- at the end of a writer's loop nothing is to come
 module _ {k : ℕ} {all : List (List ℕ)} {out₀ out : List ℕ} {at n : ℕ} (l : Laying k all [] out₀ out at n) where
   pub all-counted : n ≡ length all
   all-counted = omega (arith, l .counted)
@@ -113,9 +123,7 @@ module _ {k : ℕ} {all : List (List ℕ)} {out₀ out : List ℕ} {at n : ℕ} 
   all-wrote = rw (all-written, all-counted)
 
   pub given-done : (r : Option Answer) → none ≡ r → k * n ≤ length out → Given (done n) out r k all out₀
-  unfolding listAnswer listLeft
-  given-done r e h = rw (← e, ← all-counted, ← l .long) (simp (le-leb _ _ h), all-laid)
+  given-done r e h = listed-done k all out₀ all-counted all-laid r e (omega (arith, l .long))
 
   pub given-short : (r : Option Answer) → none ≡ r → length out < k * n → Given (short n) out r k all out₀
-  unfolding listAnswer listLeft
-  given-short r e h = rw (← e, ← all-counted, ← l .long) (simp (lt-leb _ _ h), all-laid)
+  given-short r e h = listed-short k all out₀ all-counted all-laid r e (omega (arith, l .long))
