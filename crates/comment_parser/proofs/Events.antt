@@ -1,10 +1,13 @@
--- The list of events, an event at a time, in any reading; and that an accepted state leads to accepted states alone.
+-- The list of events, an event at a time, in any reading; that an accepted state leads to accepted states alone; and a fact of every event, by one of
+-- the states on the way.
 -- Assumes nothing.
-use Prim.Native.Nat.{ℕ}
+use Prim.Native.Nat.{ℕ, zero, suc, _+_, _<_}
 use mathlib.Core.Path.{_≡_, refl, sym, ap, _∙_}
-use mathlib.Core.List.{List, [], _∷_}
+use mathlib.Core.List.{List, [], _∷_, List·Memᴰ·head, List·Memᴰ·tail, List·Memᴰ·not-nil}
 use mathlib.Core.Option.{Option, none, some}
+use native.Mathlib.Omega.{arith}
 use lib.ListN.{length}
+use Rattle.basics.specs.Member.{In}
 use Rattle.basics.proofs.Laws.{differ}
 use Rattle.records.specs.Answer.{Answer, stateRefusal}
 use Rattle.records.specs.Produced.{grow}
@@ -85,3 +88,24 @@ module _ (rd : Reading) (buf : List ℕ) where
 
   pub events-end : (st : ParserState) → seen rd buf st ≡ none → eventsFrom rd buf st ≡ []
   events-end st h = events-step st ∙ rw h
+
+module _ (rd : Reading) (buf : List ℕ) (P : ParserState → Type 0) (R : CommentItem → Type 0)
+    (on : (st : ParserState) (p : CommentItem × ParserState) → seen rd buf st ≡ some p → P st → R (p .0) × P (p .1)) where
+  abbrev Every : ParserState → Type 0
+  Every st = P st → (i : CommentItem) → In i (eventsFrom rd buf st) → R i
+
+  every : (n : ℕ) (st : ParserState) → left st < n → Every st
+  every zero st h x i m = absurd (omega arith)
+  every (suc n) st h x i m = go (every n) (seen rd buf st) refl
+    where
+      found : (p : CommentItem × ParserState) → seen rd buf st ≡ some p → Every (p .1) → In i (p .0 ∷ eventsFrom rd buf (p .1)) → R i
+      found p e later (List·Memᴰ·head same) = rw same (on st p e x .0)
+      found p e later (List·Memᴰ·tail t) = later (on st p e x .1) i t
+
+      go : ((t : ParserState) → left t < n → Every t) → (o : Option (CommentItem × ParserState)) → seen rd buf st ≡ o → R i
+      go later none e = absurd (List·Memᴰ·not-nil (rw (events-end rd buf st e) at m))
+      go later (some p) e = found p e (later (p .1) (omega (arith, seen-on rd buf st p e .less))) (rw (events-on rd buf st (p .0) (p .1) e) at m)
+
+  -- P along the way, and R of each event on it
+  pub every-event : (st : ParserState) → Every st
+  every-event st = every (left st + 1) st (omega arith)

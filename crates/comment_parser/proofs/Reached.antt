@@ -1,17 +1,19 @@
--- From a fresh start, what waits and what is given lies within the text read so far, in any reading.
+-- From a fresh start, what waits and what is given lies within the text read so far, and every event of a span in the buffer, in any reading.
 -- Assumes nothing.
 use Prim.Native.Nat.{ℕ, _≤_}
 use mathlib.Core.Path.{_≡_, subst}
 use mathlib.Core.List.{List}
 use mathlib.Core.Option.{some}
 use native.Mathlib.Omega.{arith}
+use lib.ListN.{length}
+use Rattle.basics.specs.Member.{In}
 use Rattle.basics.proofs.Laws.{by-test}
 use Rattle.byte_rules.specs.Reading.{Reading}
 use Rattle.comment_parser.specs.Item.{placedOf}
 use Rattle.comment_parser.specs.Bounds.{Within}
 use Rattle.comment_parser.specs.State.{fresh}
 use Rattle.comment_parser.specs.Pass.{runStart, runItem}
-use Rattle.comment_parser.specs.Events.{seen}
+use Rattle.comment_parser.specs.Events.{seen, eventsOf}
 use Rattle.comment_parser.specs.declared.CommentItem.{CommentItem}
 use Rattle.comment_parser.specs.declared.Next.{Next}
 use Rattle.comment_parser.specs.declared.Next.the-variants.{Event, End, Refused}
@@ -20,7 +22,7 @@ use Rattle.comment_parser.specs.declared.Waiting.{Waiting}
 use Rattle.comment_parser.specs.declared.Waiting.the-variants.{Item, Nothing}
 use Rattle.comment_parser.proofs.Progress.{Waits}
 use Rattle.comment_parser.proofs.Turns.{Turn, waited, ran, ended, over, turn, Passing, passing, runRead}
-use Rattle.comment_parser.proofs.Events.{seen-accepted, seen-answered}
+use Rattle.comment_parser.proofs.Events.{seen-accepted, seen-answered, stays-accepted, every-event}
 
 -- what waits lies within the text read so far
 abbrev pub Reached : ParserState → Type 0
@@ -61,3 +63,13 @@ seen-lies rd buf st p h r = subst LiesIf (seen-answered rd buf st p h) (lies (pa
 
 pub fresh-reached : (a b : ℕ) → Reached (fresh a b)
 fresh-reached a b = tt
+
+pub every-within : (rd : Reading) (buf : List ℕ) (start end : ℕ) (i : CommentItem) → In i (eventsOf rd buf start end) → Within 0 (length buf) (placedOf i)
+unfolding eventsOf
+every-within rd buf start end = every-event rd buf Reached (λ (i : CommentItem). Within 0 (length buf) (placedOf i)) on (fresh start end) (fresh-reached start end)
+  where
+    on : (st : ParserState) (p : CommentItem × ParserState) → seen rd buf st ≡ some p → Reached st → Within 0 (length buf) (placedOf (p .0)) × Reached (p .1)
+    on st p h r =
+        let l = seen-lies rd buf st p h r in
+        let k = stays-accepted rd buf st p h in
+        (record { above = omega arith; placed = l .within .placed; ordered = l .within .ordered; below = omega (arith, l .within .below, k .inside, k .fits) }, l .reached)

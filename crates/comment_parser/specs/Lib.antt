@@ -5,6 +5,7 @@ pub mod Pass
 pub mod Next
 pub mod End
 pub mod Events
+pub mod Places
 pub mod Notes
 pub mod Bounds
 pub mod Own
