@@ -23,7 +23,7 @@ use Rattle.comment_parser.specs.declared.CommentItem.{CommentItem}
 use Rattle.comment_parser.specs.declared.ParserState.{ParserState}
 use Rattle.comment_parser.proofs.Events.{seen-accepted, seen-on, events-on, events-end}
 use Rattle.comment_view.specs.View.{gives}
-use Rattle.events.specs.Events.{eventWidth, placedWords, eventRecord, recordsFrom, eventRecords}
+use Rattle.events.specs.Events.{eventWidth, placedWords, placedRecord, placedFrom, placedRecords}
 use Rattle.comment_view.specs.Listed.{nextRecords, ReadyFor, Lays}
 use Rattle.comment_view.specs.declared.NextItem.{NextItem}
 use Rattle.comment_view.specs.declared.NextItem.the-variants.{Event, End, Refused}
@@ -97,7 +97,7 @@ size false st = 0
 module _ (buf out₀ : List ℕ) (a z : ℕ) where
   -- the records to come
   abbrev toCome : Bool → ParserState → List (List ℕ)
-  toCome true st = recordsFrom buf st
+  toCome true st = placedFrom buf st
   toCome false st = []
 
   -- while it goes on: what waits lies within the text read, which goes to z, and there is an end to the events
@@ -107,12 +107,12 @@ module _ (buf out₀ : List ℕ) (a z : ℕ) where
     pub few : count + left st ≤ 2 * (z - a)
 
   pub record Stands (st : ParserState) (done : Listing) (out : List ℕ) : Type 0 where
-    pub laying : Laying eventWidth (eventRecords buf a z) (toCome (done .going) st) out₀ out (done .words) (done .count)
+    pub laying : Laying eventWidth (placedRecords buf a z) (toCome (done .going) st) out₀ out (done .words) (done .count)
     pub goes : done .going ≡ true → Goes st (done .count)
 
   pub starts : Stands (fresh a z) (record { going = true; words = 0; count = 0 }) out₀
   unfolding eventsOf
-  starts = record { laying = laying-starts eventWidth (eventRecords buf a z) out₀; goes = λ g. record { reached = fresh-reached a z; to-end = refl; few = omega arith } }
+  starts = record { laying = laying-starts eventWidth (placedRecords buf a z) out₀; goes = λ g. record { reached = fresh-reached a z; to-end = refl; few = omega arith } }
 
   module _ (st t : ParserState) (done : Listing) (out : List ℕ) (s : Stands st done out) (g : done .going ≡ true) where
     pub ready : (r : NextItem) → gives r t ≡ nextOf rust buf st → ReadyFor done r out
@@ -136,9 +136,9 @@ module _ (buf out₀ : List ℕ) (a z : ℕ) where
       -- it ends
       over : (r : NextItem) → seen rust buf st ≡ none → nextRecords r ≡ [] → after .going ≡ false → Lays done r out after last → Turned
       over r n none-laid o h =
-          let now : Laying eventWidth (eventRecords buf a z) (recordsFrom buf st) out₀ out (done .words) (done .count) = rw g at (s .laying) in
-          let no-more : recordsFrom buf st ≡ nextRecords r ++ [] = ap (map (eventRecord buf)) (events-end rust buf st n) ∙ ap (λ (ws : List (List ℕ)). ws ++ []) (sym none-laid) in
-          let l : Laying eventWidth (eventRecords buf a z) [] out₀ last (after .words) (after .count) = laid-on (rw no-more at now) h in (
+          let now : Laying eventWidth (placedRecords buf a z) (placedFrom buf st) out₀ out (done .words) (done .count) = rw g at (s .laying) in
+          let no-more : placedFrom buf st ≡ nextRecords r ++ [] = ap (map placedRecord) (events-end rust buf st n) ∙ ap (λ (ws : List (List ℕ)). ws ++ []) (sym none-laid) in
+          let l : Laying eventWidth (placedRecords buf a z) [] out₀ last (after .words) (after .count) = laid-on (rw no-more at now) h in (
             record { laying = rw o l; goes = λ x. absurd (differ cc) },
             rw (o, g) (omega arith),
           )
@@ -147,9 +147,9 @@ module _ (buf out₀ : List ℕ) (a z : ℕ) where
       turns (Event i) e h =
           let k = seen-is buf st t (Event i) e in
           let on = seen-on rust buf st (i, t) k in
-          let now : Laying eventWidth (eventRecords buf a z) (recordsFrom buf st) out₀ out (done .words) (done .count) = rw g at (s .laying) in
-          let one-more : recordsFrom buf st ≡ eventRecord buf i ∷ recordsFrom buf t = ap (map (eventRecord buf)) (events-on rust buf st i t k) in
-          let l : Laying eventWidth (eventRecords buf a z) (recordsFrom buf t) out₀ last (after .words) (after .count) = laid-on (rw one-more at now) h in (
+          let now : Laying eventWidth (placedRecords buf a z) (placedFrom buf st) out₀ out (done .words) (done .count) = rw g at (s .laying) in
+          let one-more : placedFrom buf st ≡ placedRecord i ∷ placedFrom buf t = ap (map placedRecord) (events-on rust buf st i t k) in
+          let l : Laying eventWidth (placedRecords buf a z) (placedFrom buf t) out₀ last (after .words) (after .count) = laid-on (rw one-more at now) h in (
             record {
               laying = rw (h .goes) l;
               goes = λ x. record { reached = seen-lies rust buf st (i, t) k (s .goes g .reached) .reached; to-end = on .same-end ∙ s .goes g .to-end; few = omega (arith, s .goes g .few, h .counts, on .less) };
@@ -160,5 +160,5 @@ module _ (buf out₀ : List ℕ) (a z : ℕ) where
       turns (Refused w) e h = over (Refused w) (seen-is buf st t (Refused w) e) refl (h .goes) h
 
   -- at the end all is laid
-  pub ends : (st : ParserState) (done : Listing) (out : List ℕ) → Stands st done out → done .going ≡ false → (done .count ≡ length (eventRecords buf a z)) × (out ≡ laid eventWidth (eventRecords buf a z) out₀)
-  ends st done out s o = let l : Laying eventWidth (eventRecords buf a z) [] out₀ out (done .words) (done .count) = rw o at (s .laying) in (all-counted l, all-laid l)
+  pub ends : (st : ParserState) (done : Listing) (out : List ℕ) → Stands st done out → done .going ≡ false → (done .count ≡ length (placedRecords buf a z)) × (out ≡ laid eventWidth (placedRecords buf a z) out₀)
+  ends st done out s o = let l : Laying eventWidth (placedRecords buf a z) [] out₀ out (done .words) (done .count) = rw o at (s .laying) in (all-counted l, all-laid l)

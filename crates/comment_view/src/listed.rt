@@ -2,6 +2,7 @@
 use crate::NextItem;
 use crate::View;
 use events::EVENT_WIDTH;
+use lines::fill_lines;
 use records::Checked;
 use records::Filled;
 use records::check_span;
@@ -10,7 +11,7 @@ ghost use mathlib.Core.Path.{_≡_};
 ghost use lib.ListN.{length};
 ghost use Rattle.records.specs.Answer.{filledAnswer};
 ghost use Rattle.records.specs.Records.{laid};
-ghost use Rattle.events.specs.Events.{eventWidth, eventRecords, eventsAnswer, eventsLeft};
+ghost use Rattle.events.specs.Events.{eventWidth, placedRecords, eventsAnswer, eventsLeft};
 ghost use Rattle.comment_view.specs.Listed.{ReadyFor, Lays};
 
 // Where a listing stands: whether it goes on, the words that it has written, and how many events there were.
@@ -20,7 +21,7 @@ pub struct Listing {
     pub count: usize,
 }
 
-// Lays a step's event behind the words written, if it fits.
+// Lays a step's event, but for its line, behind the words written, if it fits.
 fn lay_step(done: Listing, next: NextItem, out: &mut [u32]) -> Listing
     requires { ⌜ ReadyFor done next (now out) ⌝ }
     ensures { λ r. ⌜ Lays done next (now (out .entry)) r (now (out .exit)) ⌝ }
@@ -36,7 +37,7 @@ fn lay_step(done: Listing, next: NextItem, out: &mut [u32]) -> Listing
     let at = done.words;
     let wrote = lay(
         &mut out[at..],
-        &[p.kind, p.place as u32, p.start as u32, p.end as u32],
+        &[p.kind, p.place as u32, p.start as u32, p.end as u32, 0],
     );
     Listing {
         going: true,
@@ -45,10 +46,10 @@ fn lay_step(done: Listing, next: NextItem, out: &mut [u32]) -> Listing
     }
 }
 
-// Lays the events of a span, and counts them. There are none of a span that is refused.
+// Lays the events of a span, but for their lines, and counts them. There are none of a span that is refused.
 fn lay_by_view(buf: &[u8], start: usize, end: usize, out: &mut [u32]) -> usize
-    ensures { λ r. ⌜ (r ≡ length (eventRecords (now (buf .entry)) start end))
-        × (now (out .exit) ≡ laid eventWidth (eventRecords (now (buf .entry)) start end) (now (out .entry))) ⌝ }
+    ensures { λ r. ⌜ (r ≡ length (placedRecords (now (buf .entry)) start end))
+        × (now (out .exit) ≡ laid eventWidth (placedRecords (now (buf .entry)) start end) (now (out .entry))) ⌝ }
 {
     let opened = View::open(buf, start, end);
     let mut view = opened.view;
@@ -75,6 +76,7 @@ pub fn events_by_view(buf: &[u8], start: usize, end: usize, out: &mut [u32]) -> 
     }
     let most = out.len() / EVENT_WIDTH;
     let n = lay_by_view(buf, start, end, out);
+    fill_lines(buf, n, out);
     if n <= most {
         Filled::Done(n)
     } else {

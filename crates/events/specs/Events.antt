@@ -4,6 +4,7 @@ use mathlib.Core.List.{List, [], _∷_, map}
 use lib.ListN.{length}
 use Rattle.records.specs.Answer.{Answer, spanRefusal}
 use Rattle.records.specs.Records.{listAnswer, listLeft}
+use Rattle.lines.specs.Lines.{lined}
 use Rattle.byte_rules.specs.Reading.{rust}
 use Rattle.comment_parser.specs.Item.{placedOf}
 use Rattle.comment_parser.specs.Events.{eventsFrom, eventsOf}
@@ -13,23 +14,26 @@ use Rattle.comment_parser.specs.declared.ParserState.{ParserState}
 
 -- how many words a record has
 abbrev pub eventWidth : ℕ
-eventWidth = 4
+eventWidth = 5
 
--- kind, place, start, end
+-- kind, place, start, end, and 0 where the line will stand
 abbrev pub placedWords : Placed → List ℕ
-placedWords p = p .kind ∷ p .place ∷ p .start ∷ p .end ∷ []
+placedWords p = p .kind ∷ p .place ∷ p .start ∷ p .end ∷ 0 ∷ []
 
--- the record of an event of a buffer
-abbrev pub eventRecord : List ℕ → CommentItem → List ℕ
-eventRecord buf i = placedWords (placedOf i)
+-- the record of an event, but for its line
+abbrev pub placedRecord : CommentItem → List ℕ
+placedRecord i = placedWords (placedOf i)
 
--- the records of the events from a state on
-abbrev pub recordsFrom : List ℕ → ParserState → List (List ℕ)
-recordsFrom buf st = map (eventRecord buf) (eventsFrom rust buf st)
+-- those of the events from a state on, and of a span's events
+abbrev pub placedFrom : List ℕ → ParserState → List (List ℕ)
+placedFrom buf st = map placedRecord (eventsFrom rust buf st)
 
--- the records of a span's events
+abbrev pub placedRecords : List ℕ → ℕ → ℕ → List (List ℕ)
+placedRecords buf start end = map placedRecord (eventsOf rust buf start end)
+
+-- the records of a span's events, with their lines
 abbrev pub eventRecords : List ℕ → ℕ → ℕ → List (List ℕ)
-eventRecords buf start end = map (eventRecord buf) (eventsOf rust buf start end)
+eventRecords buf start end = lined buf (placedRecords buf start end)
 
 -- what a call that lists a span's events answers, and what it leaves in the room
 abbrev pub eventsAnswer : List ℕ → ℕ → ℕ → ℕ → Answer

@@ -2,6 +2,7 @@
 use comment_parser::CommentItem;
 use comment_parser::Next;
 use comment_parser::ParserState;
+use lines::fill_lines;
 use records::Checked;
 use records::Filled;
 use records::Wrote;
@@ -17,10 +18,10 @@ ghost use Rattle.comment_parser.specs.Item.{placedOf};
 ghost use Rattle.comment_parser.specs.Bounds.{Within};
 ghost use Rattle.events.specs.Events.{eventWidth, placedWords, eventsAnswer, eventsLeft};
 
-// How many words an event record has: kind, place, start, end.
-pub const EVENT_WIDTH: usize = 4;
+// How many words an event record has: kind, place, start, end, line.
+pub const EVENT_WIDTH: usize = 5;
 
-// Lays an item's record at the front of `room`, if it fits.
+// Lays an item's record, but for its line, at the front of `room`, if it fits.
 fn lay_event(room: &mut [u32], item: CommentItem) -> Wrote
     requires { ⌜ Within 0 longest (placedOf item) ⌝ }
     ensures wrote { λ r. ⌜ r ≡ wroteOf eventWidth (placedWords (placedOf item) ∷ []) (length (now (room .entry))) ⌝ }
@@ -29,7 +30,7 @@ fn lay_event(room: &mut [u32], item: CommentItem) -> Wrote
     let p = item.placed();
     lay(
         room,
-        &[p.kind, p.place as u32, p.start as u32, p.end as u32],
+        &[p.kind, p.place as u32, p.start as u32, p.end as u32, 0],
     )
 }
 
@@ -59,6 +60,7 @@ pub fn events(buf: &[u8], start: usize, end: usize, out: &mut [u32]) -> Filled
         st = after;
         note = later;
     }
+    fill_lines(buf, n, out);
     if n <= out.len() / EVENT_WIDTH {
         Filled::Done(n)
     } else {

@@ -29,12 +29,12 @@ fn put_listing(output: Output, buffer: &mut [u8], end: usize, room: &mut [u32]) 
 
 fn main() {
     let mut buffer = io::buffer();
-    let mut all = [77u32; 24];
+    let mut all = [77u32; 30];
     let first = put_listing(Output::new(), &mut buffer, 11, &mut all);
-    let mut two = [77u32; 11];
+    let mut two = [77u32; 13];
     let second = put_listing(first, &mut buffer, 11, &mut two);
     let parted = second.byte(&mut buffer, b'\n');
-    let mut one = [77u32; 4];
+    let mut one = [77u32; 5];
     let last = put_listing(parted, &mut buffer, 12, &mut one);
     last.flush(&buffer);
 }

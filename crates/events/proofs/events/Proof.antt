@@ -1,5 +1,5 @@
 -- `events` meets its contract. The invariant of its loop is `Going`: the records from here on, laid in the tail, are the records of the
--- span, laid in the room as it was.
+-- span, laid in the room as it was. Behind it their lines are filled in.
 -- Assumes nothing.
 use Prim.Native.Nat.{_≤_, _+_}
 use mathlib.Core.Path.{_≡_, sym, ap, _∙_}
@@ -10,17 +10,18 @@ use native.Mathlib.Omega.{arith}
 use borrow.Author.Needs.{needs}
 use Rattle.records.specs.Answer.{Answer, checkedAnswer, spanRefusal}
 use Rattle.records.proofs.Answers.{span-accepted}
-use Rattle.records.proofs.Laying.{Laying, back, given-refused, given-done, given-short}
+use Rattle.records.specs.Records.{laid}
+use Rattle.records.proofs.Laying.{Laying, back, given-refused, all-counted, all-laid, listed-done, listed-short}
 use Rattle.comment_parser.specs.Events.{left}
 use Rattle.comment_parser.proofs.Along.{along-end, along-less, along-within}
 use Rattle.comment_parser.proofs.Giving.{Going, going-starts, going-on, going-ends}
-use Rattle.events.specs.Events.{eventWidth, recordsFrom, eventRecords}
-use Rattle.events.proofs.Laws.{records-given, records-start}
+use Rattle.events.specs.Events.{eventWidth, placedFrom, placedRecords, eventRecords}
+use Rattle.events.proofs.Laws.{records-given, records-start, events-counted, events-laid}
 use Rattle.events.proofs.events.Statement.{statement}
 use Rattle.events.proofs.events.Tie as tie
 
 abbrev Inv-loop : tie.InvT-loop
-Inv-loop buf start end out₀ st₀ note₀ at₀ n₀ out st note at n = Going eventWidth buf (recordsFrom buf) (eventRecords buf start end) out₀ out st note at n
+Inv-loop buf start end out₀ st₀ note₀ at₀ n₀ out st note at n = Going eventWidth buf (placedFrom buf) (placedRecords buf start end) out₀ out st note at n
 
 abbrev μ-loop : tie.MeasureT-loop
 μ-loop buf start end out₀ st₀ note₀ at₀ n₀ out st note at n = left st
@@ -58,7 +59,7 @@ loop-holds c =
     let a = c .before .before .before .before .before .before .before .args in
     let fits = span-accepted (length (a .buf .now)) (a .start) (a .end) (sym (good (c .before .before))) in
     rw (c .before .new .ensures, ← records-start (a .buf .now) (a .start) (a .end))
-    (going-starts eventWidth (a .buf .now) (recordsFrom (a .buf .now)) (a .start) (a .end) (a .out .now) (c .nothing .result) (c .nothing .ensures .1) (omega arith))
+    (going-starts eventWidth (a .buf .now) (placedFrom (a .buf .now)) (a .start) (a .end) (a .out .now) (c .nothing .result) (c .nothing .ensures .1) (omega arith))
 
 next-noted-requires : tie.Need-next-noted-requires Inv-loop μ-loop
 next-noted-requires c κs = search needs
@@ -107,7 +108,7 @@ module _ (c : tie.After-lay-event Inv-loop μ-loop) where
       let l = head .loop in
       let w = c .lay-event .result in
       (l .at + w .words ≤ length (l .out))
-      × Going eventWidth (a .buf .now) (recordsFrom (a .buf .now)) (eventRecords (a .buf .now) (a .start) (a .end)) (a .out .now) (back (l .at) (l .out) (c .lay-event .last .0)) (event .next .given .0 .0) (call .next-noted .result .note) (l .at + w .words) (l .n + w .count)
+      × Going eventWidth (a .buf .now) (placedFrom (a .buf .now)) (placedRecords (a .buf .now) (a .start) (a .end)) (a .out .now) (back (l .at) (l .out) (c .lay-event .last .0)) (event .next .given .0 .0) (call .next-noted .result .note) (l .at + w .words) (l .n + w .count)
 
   turned : Turned
   turned = going-on (records-given _) (head .loop .inv) (call .next-noted .ensures) (event .next .given .1) (c .lay-event .ensures .0) (c .lay-event .ensures .1)
@@ -132,23 +133,50 @@ loop-again c = turned (c .before .before .before .before) .1
 none-to-come : (c : tie.At-match2-keys2 Inv-loop μ-loop)
     → let l = c .before .before .before in
     let a = entry l .args in
-    Laying eventWidth (eventRecords (a .buf .now) (a .start) (a .end)) [] (a .out .now) (l .loop .out) (l .loop .at) (l .loop .n)
+    Laying eventWidth (placedRecords (a .buf .now) (a .start) (a .end)) [] (a .out .now) (l .loop .out) (l .loop .at) (l .loop .n)
 none-to-come c =
     let call = c .before .before in
     let inv = call .before .loop .inv in
     going-ends (records-given _) inv (along-end (inv .along) (call .next-noted .ensures) (c .match2 .keys2))
 
+fill-lines-requires : tie.Need-fill-lines-requires Inv-loop μ-loop
+fill-lines-requires c κs = search needs
+
+-- the lines are filled in
+module _ (c : tie.After-fill-lines Inv-loop μ-loop) where
+  abbrev last : tie.At-loop Inv-loop μ-loop
+  last = c .before .before .before .before .before
+
+  accepted : none ≡ refusal (entry last)
+  accepted = good (last .before .before .before)
+
+  counted : let a = entry last .args in last .loop .n ≡ length (eventRecords (a .buf .now) (a .start) (a .end))
+  counted =
+      let a = entry last .args in
+      let l = none-to-come (c .before .before) in
+      events-counted (a .buf .now) (a .start) (a .end) (a .out .now) accepted (all-counted l) (all-laid l)
+
+  lined : let a = entry last .args in c .fill-lines .last .1 .1 .0 ≡ laid eventWidth (eventRecords (a .buf .now) (a .start) (a .end)) (a .out .now)
+  lined =
+      let a = entry last .args in
+      let l = none-to-come (c .before .before) in
+      c .fill-lines .ensures ∙ events-laid (a .buf .now) (a .start) (a .end) (a .out .now) accepted (all-counted l) (all-laid l)
+
 same-length : tie.Need-same-length Inv-loop μ-loop
 same-length c = search needs
 
 returns-2 : tie.Need-returns-2 Inv-loop μ-loop
-returns-2 c = given-done (none-to-come (c .before)) _ (good (c .before .before .before .before .before .before .before)) (omega arith)
+returns-2 c =
+    let f = c .before .before .before in
+    listed-done eventWidth _ _ (counted f) (lined f) _ (accepted f) (omega (arith, last f .loop .inv .laying .long))
 
 same-length-2 : tie.Need-same-length-2 Inv-loop μ-loop
 same-length-2 c = search needs
 
 returns-3 : tie.Need-returns-3 Inv-loop μ-loop
-returns-3 c = given-short (none-to-come (c .before)) _ (good (c .before .before .before .before .before .before .before)) (omega arith)
+returns-3 c =
+    let f = c .before .before .before in
+    listed-short eventWidth _ _ (counted f) (lined f) _ (accepted f) (omega (arith, last f .loop .inv .laying .long))
 
 pub events-spec : {M : Type 1} → statement M
 events-spec =
@@ -174,6 +202,7 @@ events-spec =
     add-n
     loop-less
     loop-again
+    fill-lines-requires
     same-length
     returns-2
     same-length-2

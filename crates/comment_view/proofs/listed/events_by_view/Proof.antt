@@ -1,29 +1,17 @@
--- `events_by_view` meets its contract: the records are laid and counted, and whether they all fit decides the answer.
+-- `events_by_view` meets its contract: the records are laid and counted, their lines are filled in, and whether they all fit decides the answer.
 -- Assumes nothing.
-use Prim.Native.Nat.{ℕ, _*_, _≤_, _<_}
 use mathlib.Core.Path.{_≡_, ap, sym, _∙_}
-use mathlib.Core.List.{List}
-use mathlib.Core.Option.{Option, none}
+use mathlib.Core.Option.{none}
 use native.Mathlib.Omega.{arith}
 use lib.ListN.{length}
-use borrow.Author.Tests.{le-leb, lt-leb}
-use Rattle.records.specs.Answer.{Answer, done, short, checkedAnswer}
-use Rattle.records.specs.Records.{laid, listAnswer, listLeft}
-use Rattle.records.proofs.Laying.{Given, given-refused}
-use Rattle.events.specs.Events.{eventWidth}
+use Rattle.records.specs.Answer.{checkedAnswer, spanRefusal}
+use Rattle.records.specs.Records.{laid}
+use Rattle.records.proofs.Laying.{given-refused, listed-done, listed-short}
+use Rattle.events.specs.Events.{eventWidth, eventRecords}
+use Rattle.events.proofs.Laws.{events-counted, events-laid}
 use borrow.Author.Needs.{needs}
 use Rattle.comment_view.proofs.listed.events_by_view.Statement.{statement}
 use Rattle.comment_view.proofs.listed.events_by_view.Tie as tie
-
--- all is laid and counted: whether it fits decides the answer
-module _ (n : ℕ) (r : Option Answer) (ws : List (List ℕ)) (room out : List ℕ) (good : none ≡ r) (all : (n ≡ length ws) × (out ≡ laid eventWidth ws room)) where
-  all-fit : eventWidth * n ≤ length room → Given (done n) out r eventWidth ws room
-  unfolding listAnswer listLeft
-  all-fit h = rw (← good, ← all .0) (simp (le-leb _ _ h), all .1)
-
-  some-fit : length room < eventWidth * n → Given (short n) out r eventWidth ws room
-  unfolding listAnswer listLeft
-  some-fit h = rw (← good, ← all .0) (simp (lt-leb _ _ h), all .1)
 
 check-span-requires : tie.Need-check-span-requires
 check-span-requires c κs = search needs
@@ -40,23 +28,42 @@ enum-told c = search needs
 lay-by-view-requires : tie.Need-lay-by-view-requires
 lay-by-view-requires c κs = search needs
 
+fill-lines-requires : tie.Need-fill-lines-requires
+fill-lines-requires c κs = search needs
+
+-- the records are laid and counted, and their lines are filled in
+module _ (c : tie.After-fill-lines) where
+  abbrev called : tie.After-lay-by-view
+  called = c .before .before .before .before
+
+  abbrev told : tie.After-enum-told
+  told = called .before .before
+
+  abbrev start : tie.Start
+  start = told .before .before .before .before .before
+
+  accepted : let a = start .args in none ≡ spanRefusal (length (a .buf .now)) (a .start) (a .end)
+  accepted = sym (ap checkedAnswer (told .enum-told .given .1)) ∙ told .before .before .check-span .ensures
+
+  counted : let a = start .args in called .lay-by-view .result ≡ length (eventRecords (a .buf .now) (a .start) (a .end))
+  counted = let a = start .args in events-counted (a .buf .now) (a .start) (a .end) (a .out .now) accepted (called .lay-by-view .ensures .0) (called .lay-by-view .ensures .1)
+
+  lined : let a = start .args in c .fill-lines .last .1 .1 .0 ≡ laid eventWidth (eventRecords (a .buf .now) (a .start) (a .end)) (a .out .now)
+  lined =
+      let a = start .args in
+      c .fill-lines .ensures ∙ events-laid (a .buf .now) (a .start) (a .end) (a .out .now) accepted (called .lay-by-view .ensures .0) (called .lay-by-view .ensures .1)
+
 same-length : tie.Need-same-length
 same-length c = search needs
 
 returns-2 : tie.Need-returns-2
-returns-2 c =
-    let called = c .before .before .before in
-    let told = called .before .before in
-    all-fit _ _ _ _ _ (sym (ap checkedAnswer (told .enum-told .given .1)) ∙ told .before .before .check-span .ensures) (called .lay-by-view .ensures) (omega (arith, c .if1 .taken))
+returns-2 c = let f = c .before .before .before in listed-done eventWidth _ _ (counted f) (lined f) _ (accepted f) (omega arith)
 
 same-length-2 : tie.Need-same-length-2
 same-length-2 c = search needs
 
 returns-3 : tie.Need-returns-3
-returns-3 c =
-    let called = c .before .before .before in
-    let told = called .before .before in
-    some-fit _ _ _ _ _ (sym (ap checkedAnswer (told .enum-told .given .1)) ∙ told .before .before .check-span .ensures) (called .lay-by-view .ensures) (omega (arith, c .if1 .left))
+returns-3 c = let f = c .before .before .before in listed-short eventWidth _ _ (counted f) (lined f) _ (accepted f) (omega arith)
 
 pub events-by-view-spec : {M : Type 1} → statement M
 events-by-view-spec =
@@ -67,6 +74,7 @@ events-by-view-spec =
     returns
     enum-told
     lay-by-view-requires
+    fill-lines-requires
     same-length
     returns-2
     same-length-2

@@ -57,7 +57,7 @@ use Rattle.byte_rules.specs.Reading.{rust}
 use Rattle.records.specs.Records.{laid}
 use Rattle.comment_parser.specs.Next.{nextOf}
 use Rattle.comment_view.specs.View.{gives, openedAnswer, openAnswer, viewOf}
-use Rattle.events.specs.Events.{eventWidth, eventRecords}
+use Rattle.events.specs.Events.{eventWidth, placedRecords}
 use Rattle.comment_view.specs.Listed.{Lays, ReadyFor}
 use Rattle.comment_view.specs.declared.View.{View}
 use Rattle.comment_view.specs.declared.Opened.{Opened}
@@ -306,7 +306,7 @@ module _ {M : Type 1} (𝓤 : URA M) (H : Heap 𝓤) (A : Atoms 𝓤) (W : Given
       nothing ! $ move ! (1 ∷ 0 ∷ []) $ fjoin ! $ owned ! S.the-row (Is S.the-row) (EL.makes S.the-type S′.the-plain 𝓤 H A) r _ is′ $ fjoin ! $
       owned ! Li.the-row (Is Li.the-row) (LL.makes Li.the-type Li′.the-plain 𝓤 H A) p _ is $ fjoin ! $ done !
 
-  exits : (n : ℕ) (zs : List ℕ) → n < 2 ^ 64 → length zs ≡ length ys → (n ≡ length (eventRecords (now s) a z)) × (zs ≡ laid eventWidth (eventRecords (now s) a z) ys)
+  exits : (n : ℕ) (zs : List ℕ) → n < 2 ^ 64 → length zs ≡ length ys → (n ≡ length (placedRecords (now s) a z)) × (zs ≡ laid eventWidth (placedRecords (now s) a z) ys)
       → ent 𝓤 (⋆ 𝓤 H A ((‵ (flft κ q) ⊛ ‵ ftrue) ∷ ‵ (flft κ′ q′) ∷ ‵ Own ∷ ‵ (Out-own zs (length ys)) ∷ [])) (Post (vint w64 n))
   exits n zs n-fits l e =
       qed W ((‵ (flft κ q) ⊛ ‵ ftrue) ∷ ‵ (flft κ′ q′) ∷ ‵ Own ∷ ‵ (Out-own zs (length ys)) ∷ []) ∵
