@@ -20,7 +20,7 @@ pub record Few (m : ℕ) (ws : List (List ℕ)) : Type 0 where
   pub wide : Wide diagWidth ws
   pub few : length ws ≤ m
 
-wide-append : (ws vs : List (List ℕ)) → Wide diagWidth ws → Wide diagWidth vs → Wide diagWidth (ws ++ vs)
+pub wide-append : (ws vs : List (List ℕ)) → Wide diagWidth ws → Wide diagWidth vs → Wide diagWidth (ws ++ vs)
 wide-append [] vs p q = q
 wide-append (w ∷ ws) vs p q = (p .0, wide-append ws vs (p .1) q)
 

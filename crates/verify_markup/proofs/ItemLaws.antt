@@ -22,7 +22,7 @@ use Rattle.verify_markup.proofs.TextLaws.{few-written}
 
 module _ (buf : List ℕ) where
   module _ (a e : ℕ) where
-    pub escapes-on : (i : ℕ) → i < e → bibEscapes buf a e (e - i) i ≡ when (byteAt buf i tick || byteAt buf i tilde) (bibEscape buf i a e) ++ bibEscapes buf a e (e - (i + 1)) (i + 1)
+    pub escapes-on : (i : ℕ) → i < e → bibEscapes buf a e (e - i) i ≡ when (byteAt buf i tick || byteAt buf i tilde) (bibEscape i a e) ++ bibEscapes buf a e (e - (i + 1)) (i + 1)
     unfolding bibEscapes
     escapes-on i h = let some : e - i ≡ suc (e - (i + 1)) = omega arith in rw some
 
@@ -45,7 +45,7 @@ module _ (buf : List ℕ) where
 
     -- a label that is not empty, by what was found of its name
     pub name-by : (label : Lookup) (i : ℕ) (unknown : Bool) → (a ≡ e → ⊥) → unknown ≡ isMissing (label (unescaped (isEscape escape.Label) (part buf a e)))
-        → nameDiags buf label i a e ≡ when unknown (unknownLabel buf a e)
+        → nameDiags buf label i a e ≡ when unknown (unknownLabel a e)
     unfolding nameDiags
     name-by label i unknown h is = rw (nameDiags, ne-eqb a e h, is)
 

@@ -3,5 +3,6 @@ mod TextLaws
 mod PlainTexts
 mod ItemLaws
 mod ListLaws
+mod LineLaws
 mod CheckLaws
 mod Tags

@@ -33,7 +33,7 @@ use Rattle.comment_parser.proofs.Along.{Along, along-starts, along-event, along
 use Rattle.verify_markup.specs.Diag.{diagWidth, unclosedMathMarkup, unclosedHtml}
 use Rattle.verify_markup.specs.Items.{Names, itemDiags}
 use Rattle.verify_markup.specs.List.{isOpen, closed, modesAfter, unclosed, lastDiags, diagsFrom, diagnostics}
-use Rattle.verify_markup.specs.Bounds.{Opened}
+use Rattle.verify_markup.specs.Bounds.{OpenedBy}
 use Rattle.verify_markup.specs.declared.Modes.{Modes}
 use Rattle.verify_markup.proofs.DiagLaws.{Few, few-append, few-none, few-when, Did, did-count}
 use Rattle.verify_markup.proofs.ItemLaws.{few-item}
@@ -80,38 +80,38 @@ modes-kept m (BibTag s) h = refl
 
 -- ---- the modes
 
-abbrev pub OpenedBoth : Modes → Type 0
-OpenedBoth m = Opened (m .math) × Opened (m .html)
+abbrev pub OpenedBoth : (ℕ → Type 0) → Modes → Type 0
+OpenedBoth P m = OpenedBy P (m .math) × OpenedBy P (m .html)
 
-opened-after : (m : Modes) (i : CommentItem) → placedOf i .place ≤ longest → OpenedBoth m → OpenedBoth (modesAfter m i)
-opened-after m (Text s) h o = o
-opened-after m (LineBreak i) h o = o
-opened-after m (StartMathMode i) h o = (h, o .1)
-opened-after m (EndMathMode i) h o = (tt, o .1)
-opened-after m (MathToken s) h o = o
-opened-after m (Label i s) h o = o
-opened-after m (Url i s) h o = o
-opened-after m (StartHtml i) h o = (o .0, h)
-opened-after m (EndHtml i) h o = (o .0, tt)
-opened-after m (StartSubscript i) h o = o
-opened-after m (EndSubscript i) h o = o
-opened-after m (StartItalic i) h o = o
-opened-after m (EndItalic i) h o = o
-opened-after m (BibTag s) h o = o
+pub opened-after : (P : ℕ → Type 0) (m : Modes) (i : CommentItem) → P (placedOf i .place) → OpenedBoth P m → OpenedBoth P (modesAfter m i)
+opened-after P m (Text s) h o = o
+opened-after P m (LineBreak i) h o = o
+opened-after P m (StartMathMode i) h o = (h, o .1)
+opened-after P m (EndMathMode i) h o = (tt, o .1)
+opened-after P m (MathToken s) h o = o
+opened-after P m (Label i s) h o = o
+opened-after P m (Url i s) h o = o
+opened-after P m (StartHtml i) h o = (o .0, h)
+opened-after P m (EndHtml i) h o = (o .0, tt)
+opened-after P m (StartSubscript i) h o = o
+opened-after P m (EndSubscript i) h o = o
+opened-after P m (StartItalic i) h o = o
+opened-after P m (EndItalic i) h o = o
+opened-after P m (BibTag s) h o = o
 
 pub few-unclosed : (made : ℕ → ℕ → List ℕ) (end : ℕ) → ((i e : ℕ) → length (made i e) ≡ diagWidth) → (p : Place) → Few 1 (unclosed made end p)
 few-unclosed made end wide (At i) = few-when true (made i end) (wide i end)
 few-unclosed made end wide Nowhere = few-none 1
 
-pub few-unclosed-math : (buf : List ℕ) (end : ℕ) (p : Place) → Few 1 (unclosed (unclosedMathMarkup buf) end p)
-few-unclosed-math buf end = few-unclosed (unclosedMathMarkup buf) end (λ i e. refl)
+pub few-unclosed-math : (end : ℕ) (p : Place) → Few 1 (unclosed unclosedMathMarkup end p)
+few-unclosed-math end = few-unclosed unclosedMathMarkup end (λ i e. refl)
 
-pub few-unclosed-html : (buf : List ℕ) (end : ℕ) (p : Place) → Few 1 (unclosed (unclosedHtml buf) end p)
-few-unclosed-html buf end = few-unclosed (unclosedHtml buf) end (λ i e. refl)
+pub few-unclosed-html : (end : ℕ) (p : Place) → Few 1 (unclosed unclosedHtml end p)
+few-unclosed-html end = few-unclosed unclosedHtml end (λ i e. refl)
 
-pub few-last : (buf : List ℕ) (end : ℕ) (m : Modes) → Few 2 (lastDiags buf end m)
+pub few-last : (end : ℕ) (m : Modes) → Few 2 (lastDiags end m)
 unfolding lastDiags
-few-last buf end m = few-append (few-unclosed-math buf end (m .math)) (few-unclosed-html buf end (m .html))
+few-last end m = few-append (few-unclosed-math end (m .math)) (few-unclosed-html end (m .html))
 
 -- ---- the loop
 
@@ -121,7 +121,7 @@ module _ (buf : List ℕ) (end : ℕ) (n : Names) (m : Modes) (st : ParserState)
   unfolding diagsFrom
   diags-on i t h = rw (events-on rust buf st i t h)
 
-  diags-end : seen rust buf st ≡ none → diagsFrom buf end n m (eventsFrom rust buf st) ≡ lastDiags buf end m
+  diags-end : seen rust buf st ≡ none → diagsFrom buf end n m (eventsFrom rust buf st) ≡ lastDiags end m
   unfolding diagsFrom
   diags-end h = rw (events-end rust buf st h)
 
@@ -129,7 +129,7 @@ module _ (buf : List ℕ) (end : ℕ) (n : Names) (m : Modes) (st : ParserState)
 pub record Going (n : Names) (buf : List ℕ) (start end : ℕ) (out₀ out : List ℕ) (st : ParserState) (note : Note) (m : Modes) (at k : ℕ) : Type 0 where
   pub along : Along buf st note
   pub to-end : st .end ≡ end
-  pub opened : OpenedBoth m
+  pub opened : OpenedBoth (λ (i : ℕ). i ≤ longest) m
   pub few : k + 4 * left st + (end - given st) ≤ 9 * longest
   pub laying : Laying diagWidth (diagnostics n buf start end) (diagsFrom buf end n m (eventsFrom rust buf st)) out₀ out at k
 
@@ -167,14 +167,14 @@ module _ {n : Names} {buf : List ℕ} {start end : ℕ} {out₀ out : List ℕ} 
         record {
           along = next;
           to-end = less .same-end ∙ g .to-end;
-          opened = opened-after m i (omega (arith, fits .placed, fits .ordered, fits .below)) (g .opened);
+          opened = opened-after (λ (j : ℕ). j ≤ longest) m i (omega (arith, fits .placed, fits .ordered, fits .below)) (g .opened);
           few = omega (arith, g .few, count, less .less, order .above, order .placed, order .ordered, order .below, given-le t (next .reached), less .within, less .same-end, g .to-end);
           laying = lies .1;
         },
       )
 
   -- the end: the last diagnostics are to come
-  pub going-ends : seen rust buf st ≡ none → Laying diagWidth (diagnostics n buf start end) (lastDiags buf end m) out₀ out at k
+  pub going-ends : seen rust buf st ≡ none → Laying diagWidth (diagnostics n buf start end) (lastDiags end m) out₀ out at k
   going-ends h = rw (diags-end buf end n m st h) at (g .laying)
 
 -- the last records were laid in the tail, and `last` is the tail since

@@ -3,7 +3,7 @@
 use Prim.Native.Nat.{ℕ, zero, suc, _+_, _-_}
 use mathlib.Core.Path.{_≡_, refl, sym, ap, _∙_, fun-ext}
 use mathlib.Core.Bool.{Bool, true, false, cond, _||_}
-use mathlib.Core.List.{List, [], _∷_, _++_, List·Memᴰ·head, List·Memᴰ·tail, List·Memᴰ·not-nil, List·Memᴰ·eq-of-singleton, List·Memᴰ·append-cases, Memᴰ·append-left, Memᴰ·append-right}
+use mathlib.Core.List.{List, [], _∷_, _++_, List·Memᴰ·head, List·Memᴰ·tail, List·Memᴰ·not-nil, List·Memᴰ·eq-of-singleton, List·Memᴰ·append-cases, Memᴰ·append-left, Memᴰ·append-right, Memᴰ·map}
 use mathlib.Core.Logic.{_⊎_, inl, inr}
 use native.Mathlib.Omega.{arith}
 use lib.Dec.{ltb, eqb}
@@ -16,6 +16,7 @@ use Rattle.basics.proofs.Laws.{differ}
 use Rattle.byte_rules.specs.Reading.{rust}
 use Rattle.look.specs.Look.{byteAt}
 use Rattle.scans.specs.Marks.{tick, tilde}
+use Rattle.lines.specs.Lines.{lineOf, withLine, lined}
 use Rattle.unescape.specs.Unescape.{isEscape, stepAt, unescaped, part}
 use Rattle.unescape.specs.declared.Escape.{Escape}
 use Rattle.unescape.specs.declared.Escape.the-variants as escape
@@ -72,14 +73,38 @@ kinds-append (w ∷ ws) vs = go (eqb (kindOf w) 8) (kinds-append ws vs)
     go true h = h
     go false h = ap (λ (rest : List (List ℕ)). w ∷ rest) h
 
+-- a line changes no kind
+module _ (buf : List ℕ) where
+  kind-lined : (w : List ℕ) → kindOf (withLine (lineOf buf) w) ≡ kindOf w
+  unfolding withLine
+  kind-lined [] = refl
+  kind-lined (kind ∷ numbers) = refl
+
+  kinds-lined : (ws : List (List ℕ)) → otherKinds (lined buf ws) ≡ lined buf (otherKinds ws)
+  unfolding otherKinds
+  kinds-lined [] = refl
+  kinds-lined (w ∷ ws) = rw (kind-lined w) (go (eqb (kindOf w) 8) (kinds-lined ws))
+    where
+      v : List ℕ
+      v = withLine (lineOf buf) w
+
+      go : (b : Bool) → otherKinds (lined buf ws) ≡ lined buf (otherKinds ws)
+          → cond b (otherKinds (lined buf ws)) (v ∷ otherKinds (lined buf ws)) ≡ lined buf (cond b (otherKinds ws) (w ∷ otherKinds ws))
+      go true h = h
+      go false h = ap (λ (rest : List (List ℕ)). v ∷ rest) h
+
+  others-lined : (ws : List (List ℕ)) → Others ws → Others (lined buf ws)
+  others-lined (w ∷ ws) p v (List·Memᴰ·head same) k = p w (List·Memᴰ·head refl) (sym (kind-lined w) ∙ ap kindOf (sym same) ∙ k)
+  others-lined (w ∷ ws) p v (List·Memᴰ·tail m) k = others-lined ws (λ u n. p u (List·Memᴰ·tail n)) v m k
+
 module _ (buf : List ℕ) where
   others-lone : (kind : Escape) (e turns i : ℕ) → Others (loneFrom buf kind e turns i)
   unfolding loneFrom
   others-lone kind e zero i = others-none
   others-lone kind e (suc turns) i = go (ltb i e) (others-lone kind e turns (i + stepAt (isEscape kind) buf i))
     where
-      go : (b : Bool) {rest : List (List ℕ)} → Others rest → Others (cond b (when (loneAt buf kind i) (uninterpretedEscape buf i) ++ rest) [])
-      go true ih = others-append (when (loneAt buf kind i) (uninterpretedEscape buf i)) (others-when (loneAt buf kind i) _ (λ k. omega (arith, k))) ih
+      go : (b : Bool) {rest : List (List ℕ)} → Others rest → Others (cond b (when (loneAt buf kind i) (uninterpretedEscape i) ++ rest) [])
+      go true ih = others-append (when (loneAt buf kind i) (uninterpretedEscape i)) (others-when (loneAt buf kind i) _ (λ k. omega (arith, k))) ih
       go false ih = others-none
 
   others-html : (a e : ℕ) → Others (htmlIn buf a e)
@@ -108,7 +133,7 @@ module _ (buf : List ℕ) where
   unfolding nameDiags
   others-name label i a e = go (eqb a e) (isMissing (label (unescaped (isEscape escape.Label) (part buf a e))))
     where
-      go : (empty missing : Bool) → Others (cond empty (emptyLabel buf i ∷ []) (when missing (unknownLabel buf a e)))
+      go : (empty missing : Bool) → Others (cond empty (emptyLabel i ∷ []) (when missing (unknownLabel a e)))
       go true missing = others-when true _ (λ k. omega (arith, k))
       go false missing = others-when missing _ (λ k. omega (arith, k))
 
@@ -120,11 +145,11 @@ module _ (buf : List ℕ) where
   unfolding bibEscapes
   others-escapes a e zero i = others-none
   others-escapes a e (suc left) i =
-      others-append (when (byteAt buf i tick || byteAt buf i tilde) (bibEscape buf i a e)) (others-when (byteAt buf i tick || byteAt buf i tilde) _ (λ k. omega (arith, k))) (others-escapes a e left (i + 1))
+      others-append (when (byteAt buf i tick || byteAt buf i tilde) (bibEscape i a e)) (others-when (byteAt buf i tick || byteAt buf i tilde) _ (λ k. omega (arith, k))) (others-escapes a e left (i + 1))
 
-  others-last : (end : ℕ) (m : Modes) → Others (lastDiags buf end m)
+  others-last : (end : ℕ) (m : Modes) → Others (lastDiags end m)
   unfolding lastDiags
-  others-last end m = others-append (unclosed (unclosedMathMarkup buf) end (m .math)) (go (unclosedMathMarkup buf) (λ i k. omega (arith, k)) (m .math)) (go (unclosedHtml buf) (λ i k. omega (arith, k)) (m .html))
+  others-last end m = others-append (unclosed unclosedMathMarkup end (m .math)) (go unclosedMathMarkup (λ i k. omega (arith, k)) (m .math)) (go unclosedHtml (λ i k. omega (arith, k)) (m .html))
     where
       go : (made : ℕ → ℕ → List ℕ) → ((i : ℕ) → kindOf (made i end) ≡ 8 → ⊥) → (p : Place) → Others (unclosed made end p)
       go made d (At i) = others-when true (made i end) (d i)
@@ -138,7 +163,7 @@ module _ (buf : List ℕ) where
       from : ℕ
       to : ℕ
       tag : In (BibTag (span from to)) is
-      same : w ≡ undefinedBibTag buf from to
+      same : w ≡ undefinedBibTag from to
       missing : noTag (n .tags) (part buf from to) ≡ true
 
     -- a tag
@@ -146,7 +171,7 @@ module _ (buf : List ℕ) where
     unfolding tagDiags
     from-tag a e is w m k = go (List·Memᴰ·append-cases (bibEscapes buf a e (e - a) a) m)
       where
-        go : In w (bibEscapes buf a e (e - a) a) ⊎ In w (when (noTag (n .tags) (part buf a e)) (undefinedBibTag buf a e)) → Of (BibTag (span a e) ∷ is) w
+        go : In w (bibEscapes buf a e (e - a) a) ⊎ In w (when (noTag (n .tags) (part buf a e)) (undefinedBibTag a e)) → Of (BibTag (span a e) ∷ is) w
         go (inl h) = absurd (others-escapes a e (e - a) a w h k)
         go (inr h) =
             let there = when-in (noTag (n .tags) (part buf a e)) _ w h in
@@ -156,7 +181,7 @@ module _ (buf : List ℕ) where
     unfolding tagDiags otherKinds
     left-out-tag a e = kinds-append (bibEscapes buf a e (e - a) a) _ ∙ rw (kept _ (others-escapes a e (e - a) a)) (go (noTag (n .tags) (part buf a e)))
       where
-        go : (t : Bool) → bibEscapes buf a e (e - a) a ++ otherKinds (when t (undefinedBibTag buf a e)) ≡ bibEscapes buf a e (e - a) a ++ []
+        go : (t : Bool) → bibEscapes buf a e (e - a) a ++ otherKinds (when t (undefinedBibTag a e)) ≡ bibEscapes buf a e (e - a) a ++ []
         go true = refl
         go false = refl
 
@@ -207,7 +232,7 @@ module _ (buf : List ℕ) where
             let f = rest later k in
             record { from = f .from; to = f .to; tag = List·Memᴰ·tail (f .tag); same = f .same; missing = f .missing }
 
-    to-diags : (end a e : ℕ) → noTag (n .tags) (part buf a e) ≡ true → (m : Modes) (is : List CommentItem) → In (BibTag (span a e)) is → In (undefinedBibTag buf a e) (diagsFrom buf end n m is)
+    to-diags : (end a e : ℕ) → noTag (n .tags) (part buf a e) ≡ true → (m : Modes) (is : List CommentItem) → In (BibTag (span a e)) is → In (undefinedBibTag a e) (diagsFrom buf end n m is)
     unfolding diagsFrom tagDiags
     to-diags end a e missing m (i ∷ is) (List·Memᴰ·head h) =
         Memᴰ·append-left {s = itemDiags buf n (isOpen (m .html)) i} (diagsFrom buf end n (modesAfter m i) is)
@@ -252,16 +277,21 @@ without-is-empty sb se lb le = same-check (rw (← empty-good 3)) names
     names i = record { symbol = entryOf sb se; label = entryOf lb le; tags = ap lookedUp (sym (fun-ext empty-missing)) i }
 
 pub every-tag : EveryTag
-every-tag sb se lb le buf start end a e m = reported-exactly (namesOf (tables sb se lb le notLent)) buf start end .whenever a e (record { tag = m; missing = refl })
+every-tag sb se lb le buf start end a e m =
+    Memᴰ·map (withLine (lineOf buf)) (reported-exactly (namesOf (tables sb se lb le notLent)) buf start end .whenever a e (record { tag = m; missing = refl }))
 
 pub nothing-else : NothingElse
 unfolding diagnostics
-nothing-else sb se lb le buf start end b = left-out buf (namesOf (tables sb se lb le b)) end closed (eventsOf rust buf start end)
+nothing-else sb se lb le buf start end b =
+    let n = namesOf (tables sb se lb le b) in
+    kinds-lined buf (diagnostics n buf start end) ∙ ap (lined buf) (left-out buf n end closed (eventsOf rust buf start end))
 
 pub no-eight : NoEight
-no-eight sb se lb le buf start end w m k =
-    let f = reported-exactly (namesOf (tables sb se lb le noTagLookup)) buf start end .only-when w m k in
-    absurd (differ (let u = f .undefined .missing in cc))
+no-eight sb se lb le buf start end =
+    let n = namesOf (tables sb se lb le noTagLookup) in
+    others-lined buf (diagnostics n buf start end) (λ w m k.
+    let f = reported-exactly n buf start end .only-when w m k in
+    absurd (differ (let u = f .undefined .missing in cc)))
 
 pub not-looked-at : NotLookedAt
 not-looked-at sb se lb le bb be = refl

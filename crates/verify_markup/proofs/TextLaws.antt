@@ -46,7 +46,7 @@ module _ (buf : List ℕ) (kind : Escape) where
     lone-over zero i h = refl
     lone-over (suc turns) i h = rw (loneFrom, le-ltb i e h)
 
-    lone-step : (turns i : ℕ) → i < e → loneFrom buf kind e (suc turns) i ≡ when (loneAt buf kind i) (uninterpretedEscape buf i) ++ loneFrom buf kind e turns (step i)
+    lone-step : (turns i : ℕ) → i < e → loneFrom buf kind e (suc turns) i ≡ when (loneAt buf kind i) (uninterpretedEscape i) ++ loneFrom buf kind e turns (step i)
     unfolding loneFrom
     lone-step turns i h = rw (loneFrom, lt-ltb i e h)
 
@@ -60,14 +60,14 @@ module _ (buf : List ℕ) (kind : Escape) where
         go (no h) ih = lone-over (suc m) i (omega arith) ∙ sym (lone-over (suc n) i (omega arith))
         go (yes h) ih =
             let s = step-some (isEscape kind) buf i in
-            lone-step m i h ∙ ap (λ (l : List (List ℕ)). when (loneAt buf kind i) (uninterpretedEscape buf i) ++ l) (ih (omega arith) (omega arith)) ∙ sym (lone-step n i h)
+            lone-step m i h ∙ ap (λ (l : List (List ℕ)). when (loneAt buf kind i) (uninterpretedEscape i) ++ l) (ih (omega arith) (omega arith)) ∙ sym (lone-step n i h)
 
-    pub lone-on : (i : ℕ) → i < e → loneFrom buf kind e (e - i) i ≡ when (loneAt buf kind i) (uninterpretedEscape buf i) ++ loneFrom buf kind e (e - step i) (step i)
+    pub lone-on : (i : ℕ) → i < e → loneFrom buf kind e (e - i) i ≡ when (loneAt buf kind i) (uninterpretedEscape i) ++ loneFrom buf kind e (e - step i) (step i)
     lone-on i h =
         let some : e - i ≡ suc (e - i - 1) = omega arith in
         let s = step-some (isEscape kind) buf i in
         ap (λ (n : ℕ). loneFrom buf kind e n i) some ∙ lone-step (e - i - 1) i h
-        ∙ ap (λ (l : List (List ℕ)). when (loneAt buf kind i) (uninterpretedEscape buf i) ++ l) (lone-same (e - i - 1) (e - step i) (step i) (omega arith) (omega arith))
+        ∙ ap (λ (l : List (List ℕ)). when (loneAt buf kind i) (uninterpretedEscape i) ++ l) (lone-same (e - i - 1) (e - step i) (step i) (omega arith) (omega arith))
 
     pub lone-ends : (i : ℕ) → e ≤ i → loneFrom buf kind e (e - i) i ≡ []
     lone-ends i h = lone-over (e - i) i h

@@ -13,7 +13,11 @@ pub record InBuf (buf : List ℕ) (start end : ℕ) : Type 0 where
   pub inside : end ≤ length buf
   pub short : length buf ≤ longest
 
--- an opening's place fits a word
+-- a fact of an opening's place
+abbrev pub OpenedBy : (ℕ → Type 0) → Place → Type 0
+OpenedBy P (At i) = P i
+OpenedBy P Nowhere = Unit
+
+-- it fits a word
 abbrev pub Opened : Place → Type 0
-Opened (At i) = i ≤ longest
-Opened Nowhere = Unit
+Opened = OpenedBy (λ i. i ≤ longest)

@@ -6,6 +6,7 @@ use lib.ListN.{length}
 use Rattle.basics.specs.Choice.{orElse}
 use Rattle.records.specs.Answer.{Answer, spanRefusal}
 use Rattle.records.specs.Records.{listAnswer, listLeft}
+use Rattle.lines.specs.Lines.{lined}
 use Rattle.name_table.specs.Table.{tableRefusal}
 use Rattle.name_table.specs.Search.{Lookup, entryOf}
 use Rattle.name_table.specs.declared.Entry.the-variants.{Nothing}
@@ -70,9 +71,9 @@ table bytes ends = record { bytes = bytes; ends = ends }
 abbrev pub tables : List ℕ → List ℕ → List ℕ → List ℕ → Bibliography → Tables
 tables sb se lb le bib = record { symbols = table sb se; labels = table lb le; bibliography = bib }
 
--- the diagnostics of the span; neighbours and doubling are looked up in the whole buffer
+-- the diagnostics of the span, with their lines; neighbours, doubling and lines are looked up in the whole buffer
 abbrev pub checkDiags : List ℕ → ℕ → ℕ → Tables → List (List ℕ)
-checkDiags buf start end t = diagnostics (namesOf t) buf start end
+checkDiags buf start end t = lined buf (diagnostics (namesOf t) buf start end)
 
 -- what the check answers, and what it leaves in a room
 abbrev pub checkAnswer : List ℕ → ℕ → ℕ → Tables → ℕ → Answer

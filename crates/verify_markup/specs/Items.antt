@@ -32,7 +32,7 @@ pub record Names : Type 0 where
 module _ (buf : List ℕ) where
   -- 4 if it is no symbol
   unfoldable pub tokenDiags : Lookup → ℕ → ℕ → List (List ℕ)
-  tokenDiags symbol a e = when (isMissing (symbol (unescaped (isEscape escape.Math) (part buf a e)))) (undefinedToken buf a e)
+  tokenDiags symbol a e = when (isMissing (symbol (unescaped (isEscape escape.Math) (part buf a e)))) (undefinedToken a e)
 
   -- 1 for the byte before the tilde, 1 for the byte after, then 2 at each lone escape, 3
   unfoldable pub tildeDiags : ℕ → List (List ℕ)
@@ -44,8 +44,8 @@ module _ (buf : List ℕ) where
   -- 5 if empty, else 6 if not found
   unfoldable pub nameDiags : Lookup → ℕ → ℕ → ℕ → List (List ℕ)
   nameDiags label i a e =
-      cond (eqb a e) (emptyLabel buf i ∷ [])
-      (when (isMissing (label (unescaped (isEscape escape.Label) (part buf a e)))) (unknownLabel buf a e))
+      cond (eqb a e) (emptyLabel i ∷ [])
+      (when (isMissing (label (unescaped (isEscape escape.Label) (part buf a e)))) (unknownLabel a e))
 
   unfoldable pub labelDiags : Lookup → ℕ → ℕ → ℕ → List (List ℕ)
   labelDiags label i a e = linkDiags i a e ++ nameDiags label i a e
@@ -53,11 +53,11 @@ module _ (buf : List ℕ) where
   -- 7 at each backtick or `~` of the `left` bytes from i on of the tag from a to e
   unfoldable pub bibEscapes : ℕ → ℕ → ℕ → ℕ → List (List ℕ)
   bibEscapes a e zero i = []
-  bibEscapes a e (suc left) i = when (byteAt buf i tick || byteAt buf i tilde) (bibEscape buf i a e) ++ bibEscapes a e left (i + 1)
+  bibEscapes a e (suc left) i = when (byteAt buf i tick || byteAt buf i tilde) (bibEscape i a e) ++ bibEscapes a e left (i + 1)
 
   -- then 8; a tag is looked up as it stands
   unfoldable pub tagDiags : Tags → ℕ → ℕ → List (List ℕ)
-  tagDiags tags a e = bibEscapes a e (e - a) a ++ when (noTag tags (part buf a e)) (undefinedBibTag buf a e)
+  tagDiags tags a e = bibEscapes a e (e - a) a ++ when (noTag tags (part buf a e)) (undefinedBibTag a e)
 
   -- `html` says whether the event stands in HTML
   abbrev pub itemDiags : Names → Bool → CommentItem → List (List ℕ)

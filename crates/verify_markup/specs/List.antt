@@ -45,13 +45,14 @@ abbrev pub unclosed : (ℕ → ℕ → List ℕ) → ℕ → Place → List (Lis
 unclosed made end (At i) = made i end ∷ []
 unclosed made end Nowhere = []
 
-module _ (buf : List ℕ) (end : ℕ) where
-  unfoldable pub lastDiags : Modes → List (List ℕ)
-  lastDiags m = unclosed (unclosedMathMarkup buf) end (m .math) ++ unclosed (unclosedHtml buf) end (m .html)
+unfoldable pub lastDiags : ℕ → Modes → List (List ℕ)
+lastDiags end m = unclosed unclosedMathMarkup end (m .math) ++ unclosed unclosedHtml end (m .html)
 
+module _ (buf : List ℕ) (end : ℕ) where
   unfoldable pub diagsFrom : Names → Modes → List CommentItem → List (List ℕ)
-  diagsFrom n m [] = lastDiags m
+  diagsFrom n m [] = lastDiags end m
   diagsFrom n m (i ∷ is) = itemDiags buf n (isOpen (m .html)) i ++ diagsFrom n (modesAfter m i) is
 
+-- all of a span, but for their lines
 unfoldable pub diagnostics : Names → List ℕ → ℕ → ℕ → List (List ℕ)
 diagnostics n buf start end = diagsFrom buf end n closed (eventsOf rust buf start end)

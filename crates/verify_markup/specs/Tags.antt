@@ -1,6 +1,6 @@
 -- WHICH TAGS ARE REPORTED, the statements. Proved in proofs/Tags.antt.
--- Records of kind 8 are those of the undefined tags. With no bibliography that is every tag, and the check is the one with an empty table. The named
--- choice leaves these records out and nothing else, and what stands in the third table's place is not looked at.
+-- Diagnostics of kind 8 are those of the undefined tags. With no bibliography that is every tag, and the check is the one with an empty table. The named
+-- choice leaves these out and nothing else, and what stands in the third table's place is not looked at.
 use Prim.Native.Nat.{ℕ}
 use mathlib.Core.Path.{_≡_}
 use mathlib.Core.Bool.{true, cond}
@@ -8,6 +8,7 @@ use mathlib.Core.List.{List, [], _∷_}
 use lib.Dec.{eqb}
 use Rattle.basics.specs.Member.{In}
 use Rattle.byte_rules.specs.Reading.{rust}
+use Rattle.lines.specs.Lines.{lineOf, withLine}
 use Rattle.unescape.specs.Unescape.{part}
 use Rattle.comment_parser.specs.Item.{span}
 use Rattle.comment_parser.specs.Events.{eventsOf}
@@ -34,13 +35,13 @@ module _ (n : Names) (buf : List ℕ) (start end : ℕ) where
   pub record OfUndefined (w : List ℕ) : Type 0 where
     pub from : ℕ
     pub to : ℕ
-    pub is : w ≡ undefinedBibTag buf from to
+    pub is : w ≡ undefinedBibTag from to
     pub undefined : Undefined from to
 
-  -- kind 8 stands for the undefined tags, and for each of them
+  -- kind 8 stands for the undefined tags, and for each of them; said of the diagnostics but for their lines
   pub record EightExactly : Type 0 where
     pub only-when : (w : List ℕ) → In w (diagnostics n buf start end) → kindOf w ≡ 8 → OfUndefined w
-    pub whenever : (a e : ℕ) → Undefined a e → In (undefinedBibTag buf a e) (diagnostics n buf start end)
+    pub whenever : (a e : ℕ) → Undefined a e → In (undefinedBibTag a e) (diagnostics n buf start end)
 
 -- whatever the lookups are
 abbrev pub ReportedExactly : Type 0
@@ -58,7 +59,7 @@ WithoutIsEmpty = (sb se lb le : List ℕ) → SameCheck (tables sb se lb le notL
 -- so every tag is reported
 abbrev pub EveryTag : Type 0
 EveryTag = (sb se lb le buf : List ℕ) (start end a e : ℕ) → In (BibTag (span a e)) (eventsOf rust buf start end)
-    → In (undefinedBibTag buf a e) (checkDiags buf start end (tables sb se lb le notLent))
+    → In (withLine (lineOf buf) (undefinedBibTag a e)) (checkDiags buf start end (tables sb se lb le notLent))
 
 -- the records of other kinds, in their order
 unfoldable pub otherKinds : List (List ℕ) → List (List ℕ)

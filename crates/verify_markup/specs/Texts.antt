@@ -49,11 +49,11 @@ module _ (buf : List ℕ) where
   loneFrom kind e zero i = []
   loneFrom kind e (suc turns) i =
       let rest = loneFrom kind e turns (i + stepAt (isEscape kind) buf i) in
-      cond (ltb i e) (when (loneAt kind i) (uninterpretedEscape buf i) ++ rest) []
+      cond (ltb i e) (when (loneAt kind i) (uninterpretedEscape i) ++ rest) []
 
   -- 3 for the first HTML mark within the span
   unfoldable pub htmlIn : ℕ → ℕ → List (List ℕ)
-  htmlIn a e = let m = htmlFrom (take e buf) (e - a) a in when (ltb (m .start) (m .end)) (uninterpretedHtml buf (m .start) (m .end))
+  htmlIn a e = let m = htmlFrom (take e buf) (e - a) a in when (ltb (m .start) (m .end)) (uninterpretedHtml (m .start) (m .end))
 
   unfoldable pub written : Escape → ℕ → ℕ → List (List ℕ)
   written kind a e = loneFrom kind e (e - a) a ++ htmlIn a e

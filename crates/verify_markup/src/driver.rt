@@ -7,6 +7,7 @@ use crate::opened::lay_last;
 use basics::Place;
 use comment_parser::Next;
 use comment_parser::ParserState;
+use lines::fill_lines;
 use name_table::check_table;
 use records::Checked;
 use records::Filled;
@@ -22,7 +23,7 @@ ghost use Rattle.verify_markup.specs.Check.{tablesRefusal, checkAnswer, 
 ghost use Rattle.verify_markup.specs.Lent.{lentTables, lentNames};
 ghost use Rattle.verify_markup.specs.Bounds.{InBuf};
 
-// Lays the diagnostics of the span, as many as fit, and counts them.
+// Lays the diagnostics of the span, but for their lines, as many as fit, and counts them.
 fn lay_all(
     buf: &[u8],
     start: usize,
@@ -79,7 +80,7 @@ fn lay_all(
         st = after;
         note = later;
     }
-    let last = lay_last(buf, modes, end, &mut out[at..]);
+    let last = lay_last(modes, end, &mut out[at..]);
     n + last.count
 }
 
@@ -137,6 +138,7 @@ pub(crate) fn check(
         return Filled::Refused(why);
     }
     let n = lay_all(buf, start, end, sb, se, lb, le, tags, bb, be, out);
+    fill_lines(buf, n, out);
     if n <= out.len() / DIAG_WIDTH {
         Filled::Done(n)
     } else {

@@ -63,7 +63,7 @@ fn lay_token(
         Spelling::Escaped(Escape::Math),
         &buf[start..end],
     );
-    lay_if(unknown, buf, UNDEFINED_TOKEN, start, end, 0, room)
+    lay_if(unknown, UNDEFINED_TOKEN, start, end, 0, room)
 }
 
 // The tilde of a Label or a Url.
@@ -115,7 +115,7 @@ fn lay_name(
         ⌜ now (room .exit) ≡ laid diagWidth (nameDiags (now (buf .entry)) known i start end) (now (room .entry)) ⌝ }
 {
     if start == end {
-        return lay_if(true, buf, EMPTY_LABEL, i, 0, 0, room);
+        return lay_if(true, EMPTY_LABEL, i, 0, 0, room);
     }
     let unknown = lacks(
         bytes,
@@ -123,7 +123,7 @@ fn lay_name(
         Spelling::Escaped(Escape::Label),
         &buf[start..end],
     );
-    lay_if(unknown, buf, UNKNOWN_LABEL, start, end, 0, room)
+    lay_if(unknown, UNKNOWN_LABEL, start, end, 0, room)
 }
 
 fn lay_label(
@@ -163,7 +163,7 @@ fn lay_bib_escapes(buf: &[u8], start: usize, end: usize, room: &mut [u32]) -> Wr
     let mut n: usize = 0;
     while i < end {
         let escape = byte_at(buf, i, b'`') | byte_at(buf, i, b'~');
-        let wrote = lay_if(escape, buf, BIB_ESCAPE, i, start, end, &mut room[at..]);
+        let wrote = lay_if(escape, BIB_ESCAPE, i, start, end, &mut room[at..]);
         at += wrote.words;
         n += wrote.count;
         i += 1;
@@ -204,15 +204,7 @@ fn lay_tag(
     let escapes = lay_bib_escapes(buf, start, end, room);
     let at = escapes.words;
     let unknown = no_tag(tags, bytes, ends, &buf[start..end]);
-    let tag = lay_if(
-        unknown,
-        buf,
-        UNDEFINED_BIB_TAG,
-        start,
-        end,
-        0,
-        &mut room[at..],
-    );
+    let tag = lay_if(unknown, UNDEFINED_BIB_TAG, start, end, 0, &mut room[at..]);
     Wrote {
         words: at + tag.words,
         count: escapes.count + tag.count,

@@ -19,5 +19,5 @@ pub(crate) const UNCLOSED_MATH_MARKUP: u32 = 9;
 
 pub(crate) const UNCLOSED_HTML: u32 = 10;
 
-// How many words a diagnostic's record has.
-pub const DIAG_WIDTH: usize = 4;
+// How many words a diagnostic's record has: kind, three numbers, line.
+pub const DIAG_WIDTH: usize = 5;

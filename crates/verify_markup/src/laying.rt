@@ -10,22 +10,14 @@ ghost use Rattle.records.specs.Answer.{longest};
 ghost use Rattle.records.specs.Records.{laid, wroteOf};
 ghost use Rattle.verify_markup.specs.Diag.{diagWidth, diag, when, nonblankAt, nonblankBefore, spaceBefore, spaceAfter};
 
-// Lays the record if the test holds.
-pub(crate) fn lay_if(
-    test: bool,
-    buf: &[u8],
-    kind: u32,
-    a: usize,
-    b: usize,
-    c: usize,
-    room: &mut [u32],
-) -> Wrote
+// Lays the record, but for its line, if the test holds.
+pub(crate) fn lay_if(test: bool, kind: u32, a: usize, b: usize, c: usize, room: &mut [u32]) -> Wrote
     requires { ⌜ (a ≤ longest) × (b ≤ longest) × (c ≤ longest) ⌝ }
-    ensures wrote { λ r. ⌜ r ≡ wroteOf diagWidth (when test (diag (now (buf .entry)) kind a b c)) (length (now (room .entry))) ⌝ }
-    ensures left { λ r. ⌜ now (room .exit) ≡ laid diagWidth (when test (diag (now (buf .entry)) kind a b c)) (now (room .entry)) ⌝ }
+    ensures wrote { λ r. ⌜ r ≡ wroteOf diagWidth (when test (diag kind a b c)) (length (now (room .entry))) ⌝ }
+    ensures left { λ r. ⌜ now (room .exit) ≡ laid diagWidth (when test (diag kind a b c)) (now (room .entry)) ⌝ }
 {
     if test {
-        lay(room, &[kind, a as u32, b as u32, c as u32])
+        lay(room, &[kind, a as u32, b as u32, c as u32, 0])
     } else {
         Wrote { words: 0, count: 0 }
     }
@@ -59,7 +51,7 @@ pub(crate) fn lay_before(buf: &[u8], i: usize, room: &mut [u32]) -> Wrote
     ensures left { λ r. ⌜ now (room .exit) ≡ laid diagWidth (spaceBefore (now (buf .entry)) i) (now (room .entry)) ⌝ }
 {
     let before = nonblank_before(buf, i);
-    lay_if(before, buf, MARKUP_NEEDS_WHITESPACE, i, 0, 0, room)
+    lay_if(before, MARKUP_NEEDS_WHITESPACE, i, 0, 0, room)
 }
 
 // 1 for the byte after it.
@@ -69,5 +61,5 @@ pub(crate) fn lay_after(buf: &[u8], i: usize, room: &mut [u32]) -> Wrote
     ensures left { λ r. ⌜ now (room .exit) ≡ laid diagWidth (spaceAfter (now (buf .entry)) i) (now (room .entry)) ⌝ }
 {
     let after = nonblank_at(buf, i + 1);
-    lay_if(after, buf, MARKUP_NEEDS_WHITESPACE, i, 0, 0, room)
+    lay_if(after, MARKUP_NEEDS_WHITESPACE, i, 0, 0, room)
 }

@@ -54,28 +54,28 @@ impl Modes {
 }
 
 // A mode that is open at the end of the span.
-fn lay_unclosed(buf: &[u8], kind: u32, opened: Place, end: usize, room: &mut [u32]) -> Wrote
+fn lay_unclosed(kind: u32, opened: Place, end: usize, room: &mut [u32]) -> Wrote
     requires { ⌜ Opened opened × (end ≤ longest) ⌝ }
-    ensures wrote { λ r. ⌜ r ≡ wroteOf diagWidth (unclosed (λ i e. diag (now (buf .entry)) kind i e 0) end opened) (length (now (room .entry))) ⌝ }
-    ensures left { λ r. ⌜ now (room .exit) ≡ laid diagWidth (unclosed (λ i e. diag (now (buf .entry)) kind i e 0) end opened) (now (room .entry)) ⌝ }
+    ensures wrote { λ r. ⌜ r ≡ wroteOf diagWidth (unclosed (λ i e. diag kind i e 0) end opened) (length (now (room .entry))) ⌝ }
+    ensures left { λ r. ⌜ now (room .exit) ≡ laid diagWidth (unclosed (λ i e. diag kind i e 0) end opened) (now (room .entry)) ⌝ }
 {
     match opened {
-        Place::At(i) => lay_if(true, buf, kind, i, end, 0, room),
+        Place::At(i) => lay_if(true, kind, i, end, 0, room),
         Place::Nowhere => Wrote { words: 0, count: 0 },
     }
 }
 
 // Last 9, then 10.
-pub(crate) fn lay_last(buf: &[u8], modes: Modes, end: usize, room: &mut [u32]) -> Wrote
+pub(crate) fn lay_last(modes: Modes, end: usize, room: &mut [u32]) -> Wrote
     requires { ⌜ Opened (modes .math) × Opened (modes .html) × (end ≤ longest) ⌝ }
-    ensures wrote { λ r. ⌜ r ≡ wroteOf diagWidth (lastDiags (now (buf .entry)) end modes) (length (now (room .entry))) ⌝ }
-    ensures left { λ r. ⌜ now (room .exit) ≡ laid diagWidth (lastDiags (now (buf .entry)) end modes) (now (room .entry)) ⌝ }
+    ensures wrote { λ r. ⌜ r ≡ wroteOf diagWidth (lastDiags end modes) (length (now (room .entry))) ⌝ }
+    ensures left { λ r. ⌜ now (room .exit) ≡ laid diagWidth (lastDiags end modes) (now (room .entry)) ⌝ }
 {
     let opened = modes.math;
-    let math = lay_unclosed(buf, UNCLOSED_MATH_MARKUP, opened, end, room);
+    let math = lay_unclosed(UNCLOSED_MATH_MARKUP, opened, end, room);
     let at = math.words;
     let opened = modes.html;
-    let html = lay_unclosed(buf, UNCLOSED_HTML, opened, end, &mut room[at..]);
+    let html = lay_unclosed(UNCLOSED_HTML, opened, end, &mut room[at..]);
     Wrote {
         words: at + html.words,
         count: math.count + html.count,

@@ -52,7 +52,7 @@ fn lay_lone(kind: Escape, buf: &[u8], start: usize, end: usize, room: &mut [u32]
     let mut n: usize = 0;
     while i < end {
         let lone = lone_at(kind, buf, i);
-        let wrote = lay_if(lone, buf, UNINTERPRETED_ESCAPE, i, 0, 0, &mut room[at..]);
+        let wrote = lay_if(lone, UNINTERPRETED_ESCAPE, i, 0, 0, &mut room[at..]);
         at += wrote.words;
         n += wrote.count;
         let on = i + unescape_step(kind, buf, i);
@@ -125,7 +125,7 @@ fn lay_html(buf: &[u8], start: usize, end: usize, room: &mut [u32]) -> Wrote
     let mark = first_html(&buf[..end], start);
     let a = mark.start;
     let e = mark.end;
-    lay_if(a < e, buf, UNINTERPRETED_HTML, a, e, 0, room)
+    lay_if(a < e, UNINTERPRETED_HTML, a, e, 0, room)
 }
 
 // What the span of a text or a label gives.

@@ -1,21 +1,28 @@
--- `driver::check` meets its contract: its answer and the room are those of a list call with the check's refusal, and over good tables the search finds what the walk finds.
+-- `driver::check` meets its contract: its answer and the room are those of a list call with the check's refusal, the lines are filled in behind the diagnostics, and over good tables the search finds what the walk finds.
 -- Assumes nothing.
 use borrow.Author.Needs.{needs}
 use mathlib.Core.Path.{_≡_, sym, ap, _∙_}
+use Prim.Native.Nat.{ℕ}
+use mathlib.Core.List.{List}
 use mathlib.Core.Option.{none}
 use native.Mathlib.Omega.{arith}
 use lib.ListN.{length}
 use Rattle.basics.proofs.Laws.{the-one, the-other}
 use Rattle.records.specs.Answer.{spanRefusal}
+use Rattle.records.specs.Records.{laid}
+use Rattle.records.proofs.Laws.{Wide}
 use Rattle.records.proofs.Answers.{span-accepted}
-use Rattle.records.proofs.Laying.{given-refused}
+use Rattle.records.proofs.Laying.{given-refused, listed-done, listed-short}
+use Rattle.lines.specs.Lines.{lined}
+use Rattle.lines.proofs.Filling.{AllFit, lined-counted, lined-laid}
 use Rattle.name_table.specs.Search.{entryOf, searched}
 use Rattle.verify_markup.specs.Diag.{diagWidth}
 use Rattle.verify_markup.specs.Items.{Names}
 use Rattle.verify_markup.specs.List.{diagnostics}
 use Rattle.verify_markup.specs.Check.{Tables, tablesRefusal, checkRefusal, namesBy}
 use Rattle.verify_markup.specs.Lent.{lentTables}
-use Rattle.verify_markup.proofs.CheckLaws.{names-good, listed-done, listed-short}
+use Rattle.verify_markup.proofs.LineLaws.{diagnostics-fit, diagnostics-wide}
+use Rattle.verify_markup.proofs.CheckLaws.{names-good}
 use Rattle.verify_markup.proofs.driver.check.Statement.{statement}
 use Rattle.verify_markup.proofs.driver.check.Tie as tie
 
@@ -77,21 +84,59 @@ lay-all-requires c κs =
     let s = span-accepted _ _ _ (sym (span-good e)) in
     record { order = omega (arith, s); inside = omega (arith, s); short = omega (arith, s) }
 
+fill-lines-requires : tie.Need-fill-lines-requires
+fill-lines-requires c κs = search needs
+
+-- the lines are filled in
+module _ (c : tie.After-fill-lines) where
+  abbrev listed : tie.After-lay-all
+  listed = c .before .before .before .before
+
+  abbrev told : tie.After-enum-told2
+  told = listed .before .before
+
+  abbrev start : tie.Start
+  start = entry (told .before .before .before)
+
+  -- by the search, and by the walk
+  abbrev found : List (List ℕ)
+  found = let a = start .args in diagnostics (namesBy searched (lent told)) (a .buf .now) (a .start) (a .end)
+
+  abbrev due : List (List ℕ)
+  due = let a = start .args in diagnostics (namesBy entryOf (lent told)) (a .buf .now) (a .start) (a .end)
+
+  wide : Wide diagWidth found
+  wide = let a = start .args in diagnostics-wide (namesBy searched (lent told)) (a .buf .now) (a .start) (a .end)
+
+  fit : AllFit (start .args .buf .now) found
+  fit =
+      let a = start .args in
+      let s = span-accepted _ _ _ (sym (span-good (told .before .before .before))) in
+      diagnostics-fit (a .buf .now) (omega (arith, s)) (namesBy searched (lent told)) (a .start) (a .end)
+
+  counted : listed .lay-all .result ≡ length (lined (start .args .buf .now) due)
+  counted =
+      let a = start .args in
+      lined-counted (a .buf .now) found (a .out .now) wide fit (listed .lay-all .ensures .0) (listed .lay-all .ensures .1) ∙ ap (λ (ws : List (List ℕ)). length (lined (a .buf .now) ws)) (all-same told)
+
+  filled-in : c .fill-lines .last .1 .1 .0 ≡ laid diagWidth (lined (start .args .buf .now) due) (start .args .out .now)
+  filled-in =
+      let a = start .args in
+      c .fill-lines .ensures
+      ∙ lined-laid (a .buf .now) found (a .out .now) wide fit (listed .lay-all .ensures .0) (listed .lay-all .ensures .1)
+      ∙ ap (λ (ws : List (List ℕ)). laid diagWidth (lined (a .buf .now) ws) (a .out .now)) (all-same told)
+
 same-length : tie.Need-same-length
 same-length c = search needs
 
 returns-3 : tie.Need-returns-3
-returns-3 c =
-    let l = c .before .before .before in
-    listed-done (all-same (l .before .before)) _ (good (l .before .before)) _ (l .lay-all .ensures .0) _ _ (l .lay-all .ensures .1) (omega arith)
+returns-3 c = let f = c .before .before .before in listed-done diagWidth _ _ (counted f) (filled-in f) _ (good (told f)) (omega arith)
 
 same-length-2 : tie.Need-same-length-2
 same-length-2 c = search needs
 
 returns-4 : tie.Need-returns-4
-returns-4 c =
-    let l = c .before .before .before in
-    listed-short (all-same (l .before .before)) _ (good (l .before .before)) _ (l .lay-all .ensures .0) _ _ (l .lay-all .ensures .1) (omega arith)
+returns-4 c = let f = c .before .before .before in listed-short diagWidth _ _ (counted f) (filled-in f) _ (good (told f)) (omega arith)
 
 pub check-spec : {M : Type 1} → statement M
 check-spec =
@@ -106,6 +151,7 @@ check-spec =
     returns-2
     enum-told-2
     lay-all-requires
+    fill-lines-requires
     same-length
     returns-3
     same-length-2

@@ -130,7 +130,7 @@ add-result c =
     let z = c .before .before .before in
     let l = z .before .before .before .before .before in
     let a = l .before .before .before .before .before .before .before .before .before .before .before .args in
-    omega (arith, l .loop .inv .few, did-count (few-last (a .buf .now) (a .end) (l .loop .modes)) _ _ (z .lay-last .result) (z .lay-last .ensures))
+    omega (arith, l .loop .inv .few, did-count (few-last (a .end) (l .loop .modes)) _ _ (z .lay-last .result) (z .lay-last .ensures))
 
 same-length : tie.Need-same-length Inv-loop μ-loop
 same-length c = search needs
@@ -142,7 +142,7 @@ returns c =
     let k = m .before .before in
     let g = k .before .loop .inv in
     let a = k .before .before .before .before .before .before .before .before .before .before .before .before .args in
-    last-laid (going-ends g (along-end (g .along) (k .next-noted .ensures) (m .match .keys2))) (few-last (a .buf .now) (a .end) (k .before .loop .modes)) (z .lay-last .result) _ (z .lay-last .ensures)
+    last-laid (going-ends g (along-end (g .along) (k .next-noted .ensures) (m .match .keys2))) (few-last (a .end) (k .before .loop .modes)) (z .lay-last .result) _ (z .lay-last .ensures)
 
 pub lay-all-spec : {M : Type 1} → statement M
 lay-all-spec =

@@ -76,16 +76,16 @@ module _ (c : tie.After-lay-if Inv-loop μ-loop) where
   told-is : told ≡ isEscape
   told-is = either (c .before .before .before .byte-at .ensures) (c .before .before .byte-at2 .ensures)
 
-  to-come : Laying diagWidth all (when isEscape (bibEscape (entry .args .buf .now) here (entry .args .start) (entry .args .end)) ++ rest) (entry .args .room .now) (head .loop .room) (head .loop .at) (head .loop .n)
+  to-come : Laying diagWidth all (when isEscape (bibEscape here (entry .args .start) (entry .args .end)) ++ rest) (entry .args .room .now) (head .loop .room) (head .loop .at) (head .loop .n)
   to-come = rw (escapes-on (entry .args .buf .now) (entry .args .start) (entry .args .end) here (c .before .before .before .before .loop-test .taken)) at (head .loop .inv .2)
 
   turn : (head .loop .at + c .lay-if .result .words ≤ length (head .loop .room))
       × Laying diagWidth all rest (entry .args .room .now)
-      (back (head .loop .at) (head .loop .room) (c .lay-if .last .1 .1 .1 .1 .1 .1 .0)) (head .loop .at + c .lay-if .result .words) (head .loop .n + c .lay-if .result .count)
-  turn = turn-laid told isEscape told-is (bibEscape (entry .args .buf .now) here (entry .args .start) (entry .args .end)) refl to-come _ (c .lay-if .result) (c .lay-if .ensures)
+      (back (head .loop .at) (head .loop .room) (c .lay-if .last .1 .1 .1 .1 .1 .0)) (head .loop .at + c .lay-if .result .words) (head .loop .n + c .lay-if .result .count)
+  turn = turn-laid told isEscape told-is (bibEscape here (entry .args .start) (entry .args .end)) refl to-come _ (c .lay-if .result) (c .lay-if .ensures)
 
   one : c .lay-if .result .count ≤ 1
-  one = did-count (few-when told (bibEscape (entry .args .buf .now) here (entry .args .start) (entry .args .end)) refl) _ _ (c .lay-if .result) (c .lay-if .ensures)
+  one = did-count (few-when told (bibEscape here (entry .args .start) (entry .args .end)) refl) _ _ (c .lay-if .result) (c .lay-if .ensures)
 
 add-at : tie.Need-add-at Inv-loop μ-loop
 add-at c = omega (arith, turn (c .before .before .before) .0, c .before .before .before .before .before .before .before .before .loop .inv .2 .long, c .before .before .before .before .before .before .before .before .before .before .before .good)

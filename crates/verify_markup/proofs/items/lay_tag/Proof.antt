@@ -55,14 +55,14 @@ add-t15 c =
     let z = c .before .before .before in
     let w = z .before .before .before .before .before .before in
     let a = w .before .before .before .before .before .before .args in
-    omega (arith, pair-words (few-escapes (a .buf .now) (a .start) (a .end) (a .end - a .start) (a .start)) (few-when (z .before .before .no-tag .result) (undefinedBibTag (a .buf .now) (a .start) (a .end)) refl) _ _ _ _ _ (w .lay-bib-escapes .ensures) (z .lay-if .ensures), w .before .before .before .before .before .before .good)
+    omega (arith, pair-words (few-escapes (a .buf .now) (a .start) (a .end) (a .end - a .start) (a .start)) (few-when (z .before .before .no-tag .result) (undefinedBibTag (a .start) (a .end)) refl) _ _ _ _ _ (w .lay-bib-escapes .ensures) (z .lay-if .ensures), w .before .before .before .before .before .before .good)
 
 add-t19 : tie.Need-add-t19
 add-t19 c =
     let z = c .before .before .before .before .before in
     let w = z .before .before .before .before .before .before in
     let a = w .before .before .before .before .before .before .args in
-    omega (arith, pair-count (few-escapes (a .buf .now) (a .start) (a .end) (a .end - a .start) (a .start)) (few-when (z .before .before .no-tag .result) (undefinedBibTag (a .buf .now) (a .start) (a .end)) refl) _ _ _ _ _ (w .lay-bib-escapes .ensures) (z .lay-if .ensures))
+    omega (arith, pair-count (few-escapes (a .buf .now) (a .start) (a .end) (a .end - a .start) (a .start)) (few-when (z .before .before .no-tag .result) (undefinedBibTag (a .start) (a .end)) refl) _ _ _ _ _ (w .lay-bib-escapes .ensures) (z .lay-if .ensures))
 
 same-length : tie.Need-same-length
 same-length c = search needs
@@ -73,7 +73,7 @@ returns c =
     let z = c .before .before .before .before .before in
     let w = z .before .before .before .before .before .before in
     let a = w .before .before .before .before .before .before .args in
-    rw (tagDiags, ← z .before .before .no-tag .ensures) (pair-did (few-escapes (a .buf .now) (a .start) (a .end) (a .end - a .start) (a .start)) (few-when (z .before .before .no-tag .result) (undefinedBibTag (a .buf .now) (a .start) (a .end)) refl) _ _ _ _ _ (w .lay-bib-escapes .ensures) (z .lay-if .ensures))
+    rw (tagDiags, ← z .before .before .no-tag .ensures) (pair-did (few-escapes (a .buf .now) (a .start) (a .end) (a .end - a .start) (a .start)) (few-when (z .before .before .no-tag .result) (undefinedBibTag (a .start) (a .end)) refl) _ _ _ _ _ (w .lay-bib-escapes .ensures) (z .lay-if .ensures))
 
 pub lay-tag-spec : {M : Type 1} → statement M
 lay-tag-spec =

@@ -14,20 +14,20 @@ lay-unclosed-requires c κs = search needs
 mul-lay-unclosed : tie.Need-mul-lay-unclosed
 mul-lay-unclosed c =
     let w = c .before .before in
-    let a = w .before .before .before .before .args in
-    omega (arith, did-inside (few-unclosed-math (a .buf .now) (a .end) (a .modes .math)) _ _ _ (w .lay-unclosed .ensures), w .before .before .before .before .good)
+    let a = w .before .before .before .args in
+    omega (arith, did-inside (few-unclosed-math (a .end) (a .modes .math)) _ _ _ (w .lay-unclosed .ensures), w .before .before .before .good)
 
 sub-lay-unclosed : tie.Need-sub-lay-unclosed
 sub-lay-unclosed c =
     let w = c .before .before in
-    let a = w .before .before .before .before .args in
-    did-inside (few-unclosed-math (a .buf .now) (a .end) (a .modes .math)) _ _ _ (w .lay-unclosed .ensures) .0
+    let a = w .before .before .before .args in
+    did-inside (few-unclosed-math (a .end) (a .modes .math)) _ _ _ (w .lay-unclosed .ensures) .0
 
 part-lay-unclosed-start : tie.Need-part-lay-unclosed-start
 part-lay-unclosed-start c =
     let w = c .before .before in
-    let a = w .before .before .before .before .args in
-    did-inside (few-unclosed-math (a .buf .now) (a .end) (a .modes .math)) _ _ _ (w .lay-unclosed .ensures) .0
+    let a = w .before .before .before .args in
+    did-inside (few-unclosed-math (a .end) (a .modes .math)) _ _ _ (w .lay-unclosed .ensures) .0
 
 part-lay-unclosed-end : tie.Need-part-lay-unclosed-end
 part-lay-unclosed-end c = search needs
@@ -35,19 +35,19 @@ part-lay-unclosed-end c = search needs
 lay-unclosed-requires-2 : tie.Need-lay-unclosed-requires-2
 lay-unclosed-requires-2 c κs = search needs
 
-add-t12 : tie.Need-add-t12
-add-t12 c =
+add-t11 : tie.Need-add-t11
+add-t11 c =
     let z = c .before .before .before in
     let w = z .before .before .before .before in
-    let a = w .before .before .before .before .args in
-    omega (arith, pair-words (few-unclosed-math (a .buf .now) (a .end) (a .modes .math)) (few-unclosed-html (a .buf .now) (a .end) (a .modes .html)) _ _ _ _ _ (w .lay-unclosed .ensures) (z .lay-unclosed2 .ensures), w .before .before .before .before .good)
+    let a = w .before .before .before .args in
+    omega (arith, pair-words (few-unclosed-math (a .end) (a .modes .math)) (few-unclosed-html (a .end) (a .modes .html)) _ _ _ _ _ (w .lay-unclosed .ensures) (z .lay-unclosed2 .ensures), w .before .before .before .good)
 
-add-t14 : tie.Need-add-t14
-add-t14 c =
+add-t13 : tie.Need-add-t13
+add-t13 c =
     let z = c .before .before .before .before .before in
     let w = z .before .before .before .before in
-    let a = w .before .before .before .before .args in
-    omega (arith, pair-count (few-unclosed-math (a .buf .now) (a .end) (a .modes .math)) (few-unclosed-html (a .buf .now) (a .end) (a .modes .html)) _ _ _ _ _ (w .lay-unclosed .ensures) (z .lay-unclosed2 .ensures))
+    let a = w .before .before .before .args in
+    omega (arith, pair-count (few-unclosed-math (a .end) (a .modes .math)) (few-unclosed-html (a .end) (a .modes .html)) _ _ _ _ _ (w .lay-unclosed .ensures) (z .lay-unclosed2 .ensures))
 
 same-length : tie.Need-same-length
 same-length c = search needs
@@ -57,8 +57,8 @@ unfolding lastDiags
 returns c =
     let z = c .before .before .before .before .before in
     let w = z .before .before .before .before in
-    let a = w .before .before .before .before .args in
-    pair-did (few-unclosed-math (a .buf .now) (a .end) (a .modes .math)) (few-unclosed-html (a .buf .now) (a .end) (a .modes .html)) _ _ _ _ _ (w .lay-unclosed .ensures) (z .lay-unclosed2 .ensures)
+    let a = w .before .before .before .args in
+    pair-did (few-unclosed-math (a .end) (a .modes .math)) (few-unclosed-html (a .end) (a .modes .html)) _ _ _ _ _ (w .lay-unclosed .ensures) (z .lay-unclosed2 .ensures)
 
 pub lay-last-spec : {M : Type 1} → statement M
 lay-last-spec =
@@ -70,7 +70,7 @@ lay-last-spec =
     part-lay-unclosed-start
     part-lay-unclosed-end
     lay-unclosed-requires-2
-    add-t12
-    add-t14
+    add-t11
+    add-t13
     same-length
     returns)

@@ -11,7 +11,7 @@ enum-known-opened : tie.Need-enum-known-opened
 enum-known-opened c = search needs
 
 lay-if-requires : tie.Need-lay-if-requires
-lay-if-requires c κs = (rw (c .before .before .opened .given .1) at (c .before .before .before .before .before .before .pre .0), c .before .before .before .before .before .before .pre .1, omega arith)
+lay-if-requires c κs = (rw (c .before .before .opened .given .1) at (c .before .before .before .before .before .pre .0), c .before .before .before .before .before .pre .1, omega arith)
 
 enum-told : tie.Need-enum-told
 enum-told c = search needs

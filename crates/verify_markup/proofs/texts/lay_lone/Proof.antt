@@ -91,16 +91,16 @@ module _ (c : tie.After-lay-if Inv-loop μ-loop) where
   abbrev rest : List (List ℕ)
   rest = let a = entry .args in let on = here + stepAt (isEscape (a .kind)) (a .buf .now) here in loneFrom (a .buf .now) (a .kind) (a .end) (a .end - on) on
 
-  to-come : Left (when (loneAt (entry .args .buf .now) (entry .args .kind) here) (uninterpretedEscape (entry .args .buf .now) here) ++ rest)
+  to-come : Left (when (loneAt (entry .args .buf .now) (entry .args .kind) here) (uninterpretedEscape here) ++ rest)
   to-come = rw (lone-on (entry .args .buf .now) (entry .args .kind) (entry .args .end) here (c .before .before .before .loop-test .taken)) at (head .loop .inv .1)
 
   turn : (head .loop .at + c .lay-if .result .words ≤ length (head .loop .room))
       × Laying diagWidth (let a = entry .args in loneFrom (a .buf .now) (a .kind) (a .end) (a .end - a .start) (a .start)) rest (entry .args .room .now)
-      (back (head .loop .at) (head .loop .room) (c .lay-if .last .1 .1 .1 .1 .1 .1 .0)) (head .loop .at + c .lay-if .result .words) (head .loop .n + c .lay-if .result .count)
-  turn = turn-laid (c .before .before .lone-at .result) (loneAt (entry .args .buf .now) (entry .args .kind) here) (c .before .before .lone-at .ensures) (uninterpretedEscape (entry .args .buf .now) here) refl to-come _ (c .lay-if .result) (c .lay-if .ensures)
+      (back (head .loop .at) (head .loop .room) (c .lay-if .last .1 .1 .1 .1 .1 .0)) (head .loop .at + c .lay-if .result .words) (head .loop .n + c .lay-if .result .count)
+  turn = turn-laid (c .before .before .lone-at .result) (loneAt (entry .args .buf .now) (entry .args .kind) here) (c .before .before .lone-at .ensures) (uninterpretedEscape here) refl to-come _ (c .lay-if .result) (c .lay-if .ensures)
 
   one : c .lay-if .result .count ≤ 1
-  one = did-count (few-when (c .before .before .lone-at .result) (uninterpretedEscape (entry .args .buf .now) here) refl) _ _ (c .lay-if .result) (c .lay-if .ensures)
+  one = did-count (few-when (c .before .before .lone-at .result) (uninterpretedEscape here) refl) _ _ (c .lay-if .result) (c .lay-if .ensures)
 
 add-at : tie.Need-add-at Inv-loop μ-loop
 add-at c = let w = c .before .before .before in omega (arith, turn w .0, head w .loop .inv .1 .long, entry w .good)
