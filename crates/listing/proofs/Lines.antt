@@ -1,24 +1,52 @@
--- The lines of the events from a state on: an event's line and those after it (lines-on), and the end (lines-end).
+-- The lines of the events from a state on: an event's line and those after it (lines-on), and the end (lines-end); and the number of the line that is
+-- carried along.
 -- Assumes nothing.
-use mathlib.Core.Path.{_≡_, ap, _∙_}
+use mathlib.Core.Path.{_≡_, sym}
 use mathlib.Core.List.{List, [], _∷_, _++_}
 use mathlib.Core.Option.{none, some}
-use Prim.Native.Nat.{ℕ}
+use Prim.Native.Nat.{ℕ, _+_, _-_, _≤_}
+use native.Mathlib.Omega.{arith}
 use Rattle.byte_rules.specs.Reading.{rust}
 use Rattle.comment_parser.specs.Events.{seen, eventsFrom}
 use Rattle.comment_parser.specs.declared.CommentItem.{CommentItem}
 use Rattle.comment_parser.specs.declared.ParserState.{ParserState}
 use Rattle.comment_parser.proofs.Events.{events-on, events-end}
-use Rattle.listing.specs.Listing.{lineOf, linesOf}
+use Rattle.comment_parser.proofs.Reached.{Reached}
+use Rattle.comment_parser.proofs.InOrder.{given, seen-in-order}
+use Rattle.lines.specs.Lines.{lineOf}
+use Rattle.lines.proofs.Laws.{line-start, line-grows}
+use Rattle.comment_parser.specs.Item.{placedOf}
+use Rattle.comment_parser.specs.Bounds.{Within}
+use Rattle.comment_parser.specs.State.{fresh}
+use Rattle.listing.specs.Listing.{eventLine, linesOf}
 
 abbrev pub linesFrom : List ℕ → ParserState → List ℕ
-linesFrom comment st = linesOf (eventsFrom rust comment st)
+linesFrom comment st = linesOf comment (eventsFrom rust comment st)
 
 module _ (comment : List ℕ) (st : ParserState) where
-  pub lines-on : (i : CommentItem) (t : ParserState) → seen rust comment st ≡ some (i, t) → linesFrom comment st ≡ lineOf i ++ linesFrom comment t
+  pub lines-on : (i : CommentItem) (t : ParserState) → seen rust comment st ≡ some (i, t) → linesFrom comment st ≡ eventLine i (lineOf comment (placedOf i .place)) ++ linesFrom comment t
   unfolding linesOf
   lines-on i t e = rw (events-on rust comment st i t e)
 
   pub lines-end : seen rust comment st ≡ none → linesFrom comment st ≡ []
   unfolding linesOf
   lines-end e = rw (events-end rust comment st e)
+
+-- the line of a place that no event to come stands before
+pub record Carried (comment : List ℕ) (st : ParserState) (place line : ℕ) : Type 0 where
+  pub is : line ≡ lineOf comment place
+  pub before : place ≤ given st
+
+pub carried-starts : (comment : List ℕ) (end : ℕ) → Carried comment (fresh 0 end) 0 1
+carried-starts comment end = record { is = sym (line-start comment); before = omega arith }
+
+module _ (comment : List ℕ) (st : ParserState) (place line : ℕ) (c : Carried comment st place line) (reached : Reached st) (i : CommentItem) (t : ParserState) (e : seen rust comment st ≡ some (i, t))
+    (to : ℕ) (is-place : to ≡ placedOf i .place) (more : ℕ) (between : more ≡ lineOf comment to - lineOf comment place) where
+  in-order : Within (given st) (given t) (placedOf i)
+  in-order = seen-in-order rust comment st (i, t) e reached
+
+  pub carried-number : line + more ≡ lineOf comment to
+  carried-number = omega (arith, c .is, line-grows comment place to (omega (arith, c .before, in-order .above)))
+
+  pub carried-on : Carried comment t to (line + more)
+  carried-on = record { is = carried-number; before = omega (arith, in-order .placed, in-order .ordered, in-order .below) }

@@ -1,9 +1,10 @@
--- The listing: a header, and a line for each event with the kind's name, place, start and end.
+-- The listing: a header, and a line for each event with the kind's name, place, start, end, and the number of the line that the place lies in.
 use Prim.Native.Nat.{ℕ}
 use mathlib.Core.List.{List, [], _∷_, _++_}
 use lib.ListN.{length}
 use Rattle.byte_rules.specs.Reading.{rust}
 use Rattle.byte_rules.specs.Text.{bytes}
+use Rattle.lines.specs.Lines.{lineOf}
 use Rattle.programs.specs.Lines.{line}
 use Rattle.comment_parser.specs.Item.{placedOf}
 use Rattle.comment_parser.specs.Events.{eventsOf}
@@ -26,19 +27,20 @@ nameOf (StartItalic a) = bytes "StartItalic"
 nameOf (EndItalic a) = bytes "EndItalic"
 nameOf (BibTag s) = bytes "BibTag"
 
-unfoldable pub lineOf : CommentItem → List ℕ
-lineOf i = let p = placedOf i in line (nameOf i) (p .place ∷ p .start ∷ p .end ∷ [])
+-- an event's line, by the number of the line that its place lies in
+unfoldable pub eventLine : CommentItem → ℕ → List ℕ
+eventLine i number = let p = placedOf i in line (nameOf i) (p .place ∷ p .start ∷ p .end ∷ number ∷ [])
 
-unfoldable pub linesOf : List CommentItem → List ℕ
-linesOf [] = []
-linesOf (i ∷ is) = lineOf i ++ linesOf is
+unfoldable pub linesOf : List ℕ → List CommentItem → List ℕ
+linesOf comment [] = []
+linesOf comment (i ∷ is) = eventLine i (lineOf comment (placedOf i .place)) ++ linesOf comment is
 
 -- the lines of a whole comment's events
 abbrev pub eventLines : List ℕ → List ℕ
-eventLines comment = linesOf (eventsOf rust comment 0 (length comment))
+eventLines comment = linesOf comment (eventsOf rust comment 0 (length comment))
 
 abbrev pub header : List ℕ
-header = bytes "kind\tplace\tstart\tend\n"
+header = bytes "kind\tplace\tstart\tend\tline\n"
 
 unfoldable pub listing : List ℕ → List ℕ
 listing comment = header ++ eventLines comment

@@ -1,9 +1,10 @@
-// Reads a comment from standard input and lists its events on standard output, a line for each: kind, place, start and end, parted by tabs.
+// Reads a comment from standard input and lists its events on standard output, a line for each: kind, place, start, end and line, parted by tabs.
 mod line;
 
 use comment_parser::Next;
 use comment_parser::ParserState;
 use line::put_line;
+use lines::lines_between;
 use programs::Input;
 use programs::Output;
 use programs::read_input;
@@ -17,13 +18,15 @@ ghost use lib.ListN.{length};
 ghost use Rattle.programs.specs.Output.{waiting, gathered, Gathers};
 ghost use Rattle.listing.specs.Listing.{eventLines, listing};
 
-// A line for each event, as it is read. It stops where a write fails.
+// A line for each event, as it is read. Places never fall, so the number of the line is carried along. It stops where a write fails.
 fn put_events(output: Output, buffer: &mut [u8], comment: &[u8]) -> Output
     ensures { λ r. ⌜ (r .good ≡ true → Gathers (eventLines (now (comment .entry))) output (now (buffer .entry)) r (now (buffer .exit))) ⌝ }
 {
     let mut written = output;
     let mut st = ParserState::new(0, comment.len());
     let mut note = Note::nothing();
+    let mut place: usize = 0;
+    let mut line: usize = 1;
     loop {
         let noted = st.next_noted(comment, note);
         let next = noted.next;
@@ -31,10 +34,14 @@ fn put_events(output: Output, buffer: &mut [u8], comment: &[u8]) -> Output
         let Next::Event(after, item) = next else {
             return written;
         };
-        written = put_line(written, buffer, item);
+        let to = item.placed().place;
+        let number = line + lines_between(comment, place, to);
+        written = put_line(written, buffer, item, number);
         if written.good {
             st = after;
             note = later;
+            place = to;
+            line = number;
         } else {
             return written;
         }
@@ -45,7 +52,7 @@ fn put_events(output: Output, buffer: &mut [u8], comment: &[u8]) -> Output
 fn put_listing(buffer: &mut [u8], comment: &[u8]) -> Output
     ensures { λ r. ⌜ (r .good ≡ true → waiting r (now (buffer .exit)) ≡ gathered (length (now (buffer .entry))) [] (listing (now (comment .entry)))) ⌝ }
 {
-    let head = Output::new().text(buffer, b"kind\tplace\tstart\tend\n");
+    let head = Output::new().text(buffer, b"kind\tplace\tstart\tend\tline\n");
     put_events(head, buffer, comment)
 }
 

@@ -2,7 +2,7 @@
 -- Assumes nothing.
 use native.Mathlib.Omega.{arith}
 use borrow.Author.Needs.{needs}
-use Rattle.listing.specs.Listing.{nameOf, lineOf}
+use Rattle.listing.specs.Listing.{nameOf, eventLine}
 use Rattle.listing.proofs.Names.{Named, named}
 use Rattle.listing.proofs.line.put_line.Statement.{statement}
 use Rattle.listing.proofs.line.put_line.Tie as tie
@@ -50,7 +50,7 @@ same-length : tie.Need-same-length
 same-length c = search needs
 
 returns : tie.Need-returns
-unfolding lineOf
+unfolding eventLine
 returns c =
     let placed = c .before .before .before .before .before .before .before .before in
     rw (← placed .placed .ensures) (rw (row placed .is) at (c .before .before .line .ensures))
