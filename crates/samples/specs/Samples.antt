@@ -13,6 +13,7 @@ use Rattle.verify_markup.specs.Check as markup
 use Rattle.links.specs.Links.{linksOf}
 use Rattle.comment_parser.specs.Item.{span}
 use Rattle.comment_parser.specs.Events.{eventsOf}
+use Rattle.events.specs.Events.{eventRecords}
 use Rattle.comment_parser.specs.declared.CommentItem.{CommentItem}
 use Rattle.comment_parser.specs.declared.CommentItem.the-variants.{Text, LineBreak, StartMathMode, EndMathMode, MathToken, Label, Url, StartSubscript, EndSubscript, StartItalic, EndItalic, BibTag}
 
@@ -23,6 +24,8 @@ pub data Row : Type 0 where
   calendar : ℕ → ℕ → ℕ → Bool → Row
   -- the events of the span from a to b of a buffer
   events : List ℕ → ℕ → ℕ → List CommentItem → Row
+  -- the records of these events, with their lines
+  records : List ℕ → ℕ → ℕ → List (List ℕ) → Row
   -- the records of the parentheticals of the span from a to b of a buffer
   credits : List ℕ → ℕ → ℕ → List (List ℕ) → Row
   -- the diagnostics of the span from a to b of a buffer with no symbols and no labels, by what is said of the bibliography
@@ -37,10 +40,11 @@ abbrev pub computed : Row → Row
 computed (date text answer) = date text (readAnswer text)
 computed (calendar y m d is) = calendar y m d (isCalendar (record { year = y; month = m; day = d }))
 computed (events buf a b items) = events buf a b (eventsOf rust buf a b)
-computed (credits buf a b records) = credits buf a b (recordsOf rust buf a b)
-computed (check buf a b bibliography records) = check buf a b bibliography (markup.checkDiags buf a b (markup.tables [] [] [] [] bibliography))
+computed (records buf a b words) = records buf a b (eventRecords buf a b)
+computed (credits buf a b words) = credits buf a b (recordsOf rust buf a b)
+computed (check buf a b bibliography words) = check buf a b bibliography (markup.checkDiags buf a b (markup.tables [] [] [] [] bibliography))
 computed (lookup names ends name answer) = lookup names ends name (lookupAnswer names ends name)
-computed (links buf a b names ends records) = links buf a b names ends (linksOf buf names ends a b)
+computed (links buf a b names ends words) = links buf a b names ends (linksOf buf names ends a b)
 
 -- an answer by its number and values
 abbrev pub gives : ℕ → List ℕ → Answer
@@ -79,6 +83,13 @@ table a b c d e f g h i j k l =
     -- a span that begins inside the buffer: the byte before it counts
     ∷ events (bytes "a_b_") 1 4 (StartSubscript 1 ∷ Text (span 2 3) ∷ EndSubscript 3 ∷ Text (span 3 4) ∷ [])
     ∷ events (bytes " _b_") 1 4 (StartItalic 1 ∷ Text (span 2 3) ∷ EndItalic 3 ∷ [])
+    -- lines: of three LF, of the comment that the listing is shown for, and behind an LF before the span
+    ∷ records (10 ∷ 10 ∷ 10 ∷ []) 0 3
+    ((1 ∷ 0 ∷ 0 ∷ 1 ∷ 1 ∷ []) ∷ (2 ∷ 1 ∷ 1 ∷ 1 ∷ 2 ∷ []) ∷ (1 ∷ 1 ∷ 1 ∷ 2 ∷ 2 ∷ []) ∷ (2 ∷ 2 ∷ 2 ∷ 2 ∷ 3 ∷ []) ∷ (1 ∷ 2 ∷ 2 ∷ 3 ∷ 3 ∷ []) ∷ [])
+    ∷ records (bytes "x_0 ~ ax-1.") 0 11
+    ((1 ∷ 0 ∷ 0 ∷ 1 ∷ 1 ∷ []) ∷ (10 ∷ 1 ∷ 1 ∷ 1 ∷ 1 ∷ []) ∷ (1 ∷ 2 ∷ 2 ∷ 3 ∷ 1 ∷ []) ∷ (11 ∷ 3 ∷ 3 ∷ 3 ∷ 1 ∷ []) ∷ (1 ∷ 3 ∷ 3 ∷ 4 ∷ 1 ∷ []) ∷ (6 ∷ 4 ∷ 6 ∷ 11 ∷ 1 ∷ []) ∷ [])
+    ∷ records (bytes "\n~ a") 1 4 ((6 ∷ 1 ∷ 3 ∷ 4 ∷ 2 ∷ []) ∷ [])
+    ∷ check (bytes "\n[a]") 1 4 markup.notLent ((8 ∷ 2 ∷ 3 ∷ 0 ∷ 2 ∷ []) ∷ [])
     -- one credit (0,49), author (16,35), date (37,47)
     ∷ credits (bytes "(Contributed by Ann (Revised by Bob, 2-Feb-2020.)") 0 49 ((1 ∷ 0 ∷ 49 ∷ 16 ∷ 35 ∷ 37 ∷ 47 ∷ []) ∷ [])
     -- the table of a, a[b and ax-1: an entry, none; and the table of a twice, whose second entry is bad
@@ -90,8 +101,8 @@ table a b c d e f g h i j k l =
     ∷ links (bytes "~ mmx") 0 5 (bytes "mmx") (3 ∷ []) []
     ∷ links (bytes "~") 0 1 [] (0 ∷ []) ((1 ∷ 1 ∷ 0 ∷ []) ∷ [])
     -- a tag without a bibliography, with an empty one, with one that has it, and not looked up
-    ∷ check (bytes "[a]") 0 3 markup.notLent ((8 ∷ 1 ∷ 2 ∷ 0 ∷ []) ∷ [])
-    ∷ check (bytes "[a]") 0 3 (markup.lent (markup.table [] [])) ((8 ∷ 1 ∷ 2 ∷ 0 ∷ []) ∷ [])
+    ∷ check (bytes "[a]") 0 3 markup.notLent ((8 ∷ 1 ∷ 2 ∷ 0 ∷ 1 ∷ []) ∷ [])
+    ∷ check (bytes "[a]") 0 3 (markup.lent (markup.table [] [])) ((8 ∷ 1 ∷ 2 ∷ 0 ∷ 1 ∷ []) ∷ [])
     ∷ check (bytes "[a]") 0 3 (markup.lent (markup.table (bytes "a") (1 ∷ []))) []
     ∷ check (bytes "[a]") 0 3 markup.noTagLookup []
     ∷ []
