@@ -45,10 +45,10 @@ PUBLIC = [
     ("compare", "call_compare", []),
     ("is_calendar", "call_is_calendar", []),
 ]
-WIDTHS = {"E": 16, "P": 28, "C": 16, "H": 12, "U": 1}
+WIDTHS = {"E": 20, "P": 28, "C": 20, "H": 12, "U": 1}
 # What is counted of one comment: four calls, the check of the comment check's tables, and that of the links' labels.
 PARTS = ["events", "parentheticals", "check", "links", "tables' check", "labels' check"]
-SHOWN = {"\n ": "LF and space", "`a": "`` `a ``"}
+SHOWN = {"\n ": "LF and space", "`a": "`` `a ``", "<html>_ _\n\n": "`<html>_ _` and two LF"}
 
 
 def table(head, rows):
@@ -115,11 +115,12 @@ def under(total):
 
 
 def links_rows(facts):
-    """The links beside the events, at either room: instructions a byte, and the most that they may be."""
+    """The links, at either room, beside the events at room 0, which have no lines in them: instructions a byte, and the most that they may be."""
     labels, text = facts["labels"]
+    events = facts["rows"]["E", 0][1]
     more = (A_LABEL * labels + A_LABEL_BYTE * text) / facts["bytes"]
     made = []
-    for (room, parts), events in zip(facts["links"].items(), facts["rows"]["E", 0][1:]):
+    for room, parts in facts["links"].items():
         ours = sum(parts)
         a_label = ((ours - events) * facts["bytes"] - A_LABEL_BYTE * text) / labels
         made.append([room, f"{events:.2f}", *(f"{part:.2f}" for part in parts), f"{ours:.2f}", f"{events + more:.2f}",
@@ -138,8 +139,8 @@ def growth(small, large):
 
 def square_rows(squares):
     made = []
-    for pattern, small, large, written in squares:
-        grown = growth(small, large)
+    for pattern, small, large, few_written, written in squares:
+        grown = max(growth(small, large), growth(few_written, written))
         said = "" if sum(large) < PAGE and sum(written) < PAGE and grown <= GROWTH else "**missed**"
         made.append([SHOWN.get(pattern, f"`{pattern}`"), *(f"{n:,}" for n in large), f"{sum(large):,}", f"{grown:.3f}", f"{sum(written):,}", said])
     return made
@@ -148,8 +149,8 @@ def square_rows(squares):
 def written(facts):
     symbols, labels, tags = facts["entries"]
     squares = facts["squares"]
-    worst = max(max(sum(large), sum(enough)) for _, _, large, enough in squares)
-    grown = max(growth(small, large) for _, small, large, _ in squares)
+    worst = max(max(sum(large), sum(enough)) for _, _, large, _, enough in squares)
+    grown = max(max(growth(small, large), growth(few_enough, enough)) for _, small, large, few_enough, enough in squares)
     _, few, added = facts["check"]
     return f"""# Instructions, beside the Rust
 
@@ -170,7 +171,7 @@ The check: with set.mm's {symbols:,} symbols, {labels:,} labels and a bibliograp
 ## Links
 
 The links of all comments to the {labels:,} labels, counted in the same two parts. set.mm has {facts['labels'][0]:,} Label events, whose texts have {facts['labels'][1]:,} bytes. The Rust has no such call.
-At most: the events' count, and {A_LABEL} instructions a label and {A_LABEL_BYTE} a byte of its text. The last column is what a label takes beside the events and those {A_LABEL_BYTE}.
+At most: the events' count at room 0, which has no lines in it, and {A_LABEL} instructions a label and {A_LABEL_BYTE} a byte of its text. The last column is what a label takes beside the events and those {A_LABEL_BYTE}.
 
 {table(["", "events", "one label in " + str(facts['few']), "the others add", "links", "at most", "", "a label"], links_rows(facts))}
 ## A page
@@ -180,7 +181,7 @@ The largest comment of set.mm before a theorem ({facts['largest']:,} bytes), wit
 {table(["", *PARTS, "together", "", "times under"], big_rows(facts["big"]))}
 ## No square
 
-65,536 bytes of each, repeated. Growth: the cost a byte over that at 16,384 bytes, the greatest of the four calls, the tables' checks apart; at most {GROWTH}. The most of any is {worst:,}: {under(worst)} the page's {PAGE:,}. The greatest growth is {grown:.3f}.
+65,536 bytes of each, repeated. Growth: the cost a byte over that at 16,384 bytes, the greatest of the four calls at room 0 and with room enough, the tables' checks apart; at most {GROWTH}. The most of any is {worst:,}: {under(worst)} the page's {PAGE:,}. The greatest growth is {grown:.3f}.
 
 {table(["bytes", *PARTS, "together", "growth", "room enough, together", ""], square_rows(squares))}
 The Rust's events on the first: {facts['rust_square']:,}.
