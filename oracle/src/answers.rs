@@ -28,9 +28,9 @@ pub fn records(out: &mut Out, words: &[u32], width: usize) {
 }
 
 /// The answer of a list call: head, records, and words that were touched.
-pub fn list(out: &mut Out, op: &str, laid: &Laid, width: usize) {
+pub fn list(out: &mut Out, op: &str, laid: &Laid) {
     line(out, op, &[laid.answer, laid.count as u32]);
-    records(out, &laid.written, width);
+    records(out, &laid.written, laid.width);
     touched(out, &laid.touched);
 }
 

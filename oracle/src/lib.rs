@@ -13,6 +13,7 @@ pub mod gen;
 #[cfg(feature = "cases")]
 pub mod held;
 pub mod lent;
+pub mod lines;
 pub mod ops;
 pub mod rooms;
 pub mod states;

@@ -4,6 +4,7 @@ use crate::cases::{Case, NO_TAG_LOOKUP};
 use crate::comment_parser::{CommentItem, CommentParser, Date, Discouragements, Parenthetical, ParentheticalIter};
 use crate::diag::Diagnostic;
 use crate::lent::{Bibliography, Database};
+use crate::lines::Lines;
 use crate::parser::is_valid_label;
 use crate::rooms::{lay, write_text};
 use crate::states::{event_words, State, STATE_BYTES};
@@ -46,9 +47,11 @@ fn span_of(case: &Case, buf: &[u8]) -> Option<Span> {
 }
 
 fn events(case: &Case, out: &mut Out) {
-    let Some(span) = span_of(case, &case.payload) else { return line(out, "E", &[2, 0]) };
-    let list: Vec<[u32; 4]> = CommentParser::new(&case.payload, span).map(event_words).collect();
-    answers::list(out, "E", &lay(&list, case.room), 4);
+    let buf = &case.payload;
+    let Some(span) = span_of(case, buf) else { return line(out, "E", &[2, 0]) };
+    let lines = Lines::of(buf);
+    let list: Vec<_> = CommentParser::new(buf, span).map(event_words).map(|words| lines.record(words)).collect();
+    answers::list(out, "E", &lay(&list, case.room));
 }
 
 fn steps(case: &Case, out: &mut Out) -> Option<()> {
@@ -93,7 +96,7 @@ fn parenthetical_words((whole, item): (Span, Parenthetical)) -> [u32; 7] {
 fn parentheticals(case: &Case, out: &mut Out) {
     let Some(span) = span_of(case, &case.payload) else { return line(out, "P", &[2, 0]) };
     let list: Vec<[u32; 7]> = ParentheticalIter::new(&case.payload, span).map(parenthetical_words).collect();
-    answers::list(out, "P", &lay(&list, case.room), 7);
+    answers::list(out, "P", &lay(&list, case.room));
 }
 
 fn parentheticals_by_step(case: &Case, out: &mut Out) {
@@ -218,7 +221,7 @@ fn look_up(case: &Case, tables: &Tables, out: &mut Out) {
     }
 }
 
-/// The four words of a diagnostic.
+/// The four words of a diagnostic, without its line.
 fn diagnostic_words(d: &Diagnostic) -> [u32; 4] {
     match *d {
         Diagnostic::MarkupNeedsWhitespace(at) => [1, at, 0, 0],
@@ -236,7 +239,8 @@ fn diagnostic_words(d: &Diagnostic) -> [u32; 4] {
 
 /// The check. Where no bibliography is lent the crate is given an empty one; by the named choice it is given none.
 fn check(case: &Case, tables: &Tables, out: &mut Out) {
-    let Some(span) = span_of(case, &case.payload) else { return line(out, "C", &[2, 0]) };
+    let buf = &case.payload;
+    let Some(span) = span_of(case, buf) else { return line(out, "C", &[2, 0]) };
     let looks_up_tags = case.flag != NO_TAG_LOOKUP;
     if let Some((table, entry)) = tables.first_bad(if looks_up_tags { 3 } else { 2 }) {
         return line(out, "C", &[4, u32::from(table), entry as u32]);
@@ -245,9 +249,10 @@ fn check(case: &Case, tables: &Tables, out: &mut Out) {
     let empty = Names::default();
     let tags = tables.bibliography.as_ref().unwrap_or(&empty);
     let bib = looks_up_tags.then_some(Bibliography(tags));
-    let found = check_comment(&db, bib.as_ref(), &case.payload, span);
-    let list: Vec<[u32; 4]> = found.iter().map(diagnostic_words).collect();
-    answers::list(out, "C", &lay(&list, case.room), 4);
+    let found = check_comment(&db, bib.as_ref(), buf, span);
+    let lines = Lines::of(buf);
+    let list: Vec<_> = found.iter().map(diagnostic_words).map(|words| lines.record(words)).collect();
+    answers::list(out, "C", &lay(&list, case.room));
 }
 
 /// The three words of a link; none if the event is no Label, or its unescaped text no name of the table.
@@ -268,5 +273,5 @@ fn links(case: &Case, tables: &Tables, out: &mut Out) {
         return line(out, "H", &[4, 1, entry as u32]);
     }
     let list: Vec<[u32; 3]> = CommentParser::new(buf, span).filter_map(|item| link_words(item, buf, labels)).collect();
-    answers::list(out, "H", &lay(&list, case.room), 3);
+    answers::list(out, "H", &lay(&list, case.room));
 }

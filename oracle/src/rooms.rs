@@ -10,15 +10,17 @@ fn byte_at(i: usize) -> u8 {
     (i % 255) as u8 + 1
 }
 
-/// What a list writer leaves: the answer, the full count, the records written and the words that it should have kept.
+/// What a list writer leaves: the answer, the full count, the words of a record, the records written and the words
+/// that it should have kept.
 pub struct Laid {
     pub answer: u32,
     pub count: usize,
+    pub width: usize,
     pub written: Vec<u32>,
     pub touched: Vec<usize>,
 }
 
-/// Lays records of `width` words into `room` words: the first that fit.
+/// Lays records of `WIDTH` words into `room` words: the first that fit.
 pub fn lay<const WIDTH: usize>(records: &[[u32; WIDTH]], room: u32) -> Laid {
     let mut words: Vec<u32> = (0..room as usize).map(word_at).collect();
     let fit = records.len().min(words.len() / WIDTH);
@@ -27,7 +29,8 @@ pub fn lay<const WIDTH: usize>(records: &[[u32; WIDTH]], room: u32) -> Laid {
     }
     let touched = (fit * WIDTH..words.len()).filter(|&i| words[i] != word_at(i)).collect();
     words.truncate(fit * WIDTH);
-    Laid { answer: if fit < records.len() { 7 } else { 0 }, count: records.len(), written: words, touched }
+    let answer = if fit < records.len() { 7 } else { 0 };
+    Laid { answer, count: records.len(), width: WIDTH, written: words, touched }
 }
 
 /// What a text writer leaves: the answer, the bytes needed, the bytes written and those that it should have kept.

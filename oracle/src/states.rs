@@ -1,4 +1,4 @@
-//! Events as four words, and parser states as the ten words of ops S and V.
+//! Events as four words, without a line, and parser states as the ten words of ops S and V.
 use crate::comment_parser::{CommentItem, CommentParser, Fields};
 use crate::Span;
 
@@ -7,7 +7,7 @@ pub const STATE_BYTES: u32 = 40;
 /// The noted italic end where there is none.
 const NO_ITALIC: u32 = u32::MAX;
 
-/// An event record: kind, place, start, end.
+/// The four words of an event: kind, place, start, end. So it is given by op S and waits in a state; op E puts the line behind.
 pub fn event_words(item: CommentItem) -> [u32; 4] {
     let span = |kind, sp: Span| [kind, sp.start, sp.start, sp.end];
     let place = |kind, at: usize| [kind, at as u32, at as u32, at as u32];

@@ -40,9 +40,19 @@ fn bad_inputs_end_the_run() {
 
 #[test]
 fn records_that_fit() {
-    assert_eq!(run_cases(&[case(b'E', 0, 3, 0, b"a`b")]), "E 7 3\n");
-    assert_eq!(run_cases(&[case(b'E', 0, 3, 11, b"a`b")]), "E 7 3\n1 0 0 1\n3 1 1 1\n");
-    assert_eq!(run_cases(&[case(b'E', 0, 3, 12, b"a`b")]), "E 0 3\n1 0 0 1\n3 1 1 1\n5 2 2 3\n");
+    // five words a record, for events and diagnostics alike
+    let records = ["1 0 0 1 1\n", "3 1 1 1 1\n", "5 2 2 3 1\n"];
+    for (room, fit) in [(0, 0), (4, 0), (5, 1), (9, 1), (10, 2), (14, 2), (15, 3), (16, 3)] {
+        let answer = if fit < 3 { 7 } else { 0 };
+        let want = format!("E {answer} 3\n{}", records[..fit].concat());
+        assert_eq!(run_cases(&[case(b'E', 0, 3, room, b"a`b")]), want, "{room}");
+    }
+    let records = ["2 7 0 0 2\n", "3 0 6 0 1\n"];
+    for (room, fit) in [(0, 0), (4, 0), (5, 1), (9, 1), (10, 2), (11, 2)] {
+        let answer = if fit < 2 { 7 } else { 0 };
+        let want = format!("C {answer} 2\n{}", records[..fit].concat());
+        assert_eq!(run_cases(&[case(b'C', 0, 8, room, b"<html>\n_")]), want, "{room}");
+    }
     assert_eq!(run_cases(&[case(b'E', 0, 4, 12, b"a`b")]), "E 2 0\n");
     assert_eq!(run_cases(&[case(b'P', 2, 1, 12, b"a`b")]), "P 2 0\n");
     assert_eq!(run_cases(&[case(b'Q', 2, 1, 12, b"a`b")]), "Q 2 0 0\n");
@@ -69,6 +79,12 @@ fn states() {
     assert_eq!(steps(4, 0, 1), "S 3 0 0\nstate 4 0 0 0 0 0 0 0 4294967295 0\n");
     assert_eq!(steps(4, 0, 0), "S 0 0 0\nstate 4 0 0 0 0 0 0 0 4294967295 0\n");
     assert_eq!(steps(3, 0, 9), "S 0 1 1\n1 0 0 3\nstate 3 3 0 0 0 0 0 0 4294967295 0\n");
+    // an event that is given by a step, and one that waits, has four words: no line
+    let fresh = [&state_bytes([4, 2, 0, 0, 0, 0, 0, 0, u32::MAX, 0])[..], b"\n\na`"].concat();
+    assert_eq!(
+        run_cases(&[Case { op: b'S', c: 1, payload: fresh, ..Case::default() }]),
+        "S 0 1 0\n1 2 2 3\nstate 4 4 1 0 3 3 3 3 4294967295 0\n"
+    );
     let call = |end, pos, b, room| run_cases(&[case(b'V', 0, b, room, &state(end, pos))]);
     assert_eq!(call(3, 3, 3, 2), "V 0 2 617e\n");
     assert_eq!(call(3, 3, 3, 1), "V 7 2\n");
@@ -124,18 +140,18 @@ fn links_that_fit_and_their_refusals() {
 fn the_check_tells_the_lowest_refusal() {
     let bad = |number| table(number, &[], b"a");
     let none = Case { op: b'T', ..Case::default() };
-    let tag = case(b'C', 0, 3, 4, b"[a]");
+    let tag = case(b'C', 0, 3, 5, b"[a]");
     let lent = [bad(3), tag.clone(), bad(2), tag.clone(), none, tag.clone(), table(2, &[], b""), tag];
-    assert_eq!(run_cases(&lent), "C 4 3 0\nC 4 2 0\nC 4 2 0\nC 0 1\n8 1 2 0\n");
+    assert_eq!(run_cases(&lent), "C 4 3 0\nC 4 2 0\nC 4 2 0\nC 0 1\n8 1 2 0 1\n");
     assert_eq!(run_cases(&[bad(1), case(b'C', 0, 4, 0, b"[a]")]), "C 2 0\n");
 }
 
 #[test]
 fn tags_of_the_check() {
-    let tag = |flag| Case { flag, ..case(b'C', 0, 3, 4, b"[a]") };
+    let tag = |flag| Case { flag, ..case(b'C', 0, 3, 5, b"[a]") };
     let [by_default, by_choice] = CHECK_FLAGS.map(tag);
     let none = Case { op: b'T', ..Case::default() };
-    let (clean, undefined) = ("C 0 0\n", "C 0 1\n8 1 2 0\n");
+    let (clean, undefined) = ("C 0 0\n", "C 0 1\n8 1 2 0 1\n");
     // none at the start; a bibliography with the tag, one without it, an empty one; the tag's taken away again
     let has_tag = table(3, &[1], b"a");
     for (lent, answer) in [
@@ -157,7 +173,7 @@ fn tags_of_the_check() {
         assert_eq!(run_cases(&lent), [&told[..], &told].concat());
     }
     // a short room, and a span that is none
-    let short = |flag| Case { room: 3, ..tag(flag) };
+    let short = |flag| Case { room: 4, ..tag(flag) };
     assert_eq!(run_cases(&CHECK_FLAGS.map(short)), ["C 7 1\n", clean].concat());
     assert_eq!(run_cases(&[bad(1), Case { b: 4, ..by_choice }]), "C 2 0\n");
     // another flag is no case

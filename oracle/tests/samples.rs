@@ -54,24 +54,31 @@ fn date(text: &str, want: &str) {
 #[test]
 fn short_comments() {
     events("", &[]);
-    events("[]", &["14 1 1 1"]);
-    events("[a ]", &["1 0 0 4"]);
-    events("~", &["6 0 1 1"]);
-    events("~ mmx", &["7 0 2 5"]);
-    events("\n\n\n", &["1 0 0 1", "2 1 1 1", "1 1 1 2", "2 2 2 2", "1 2 2 3"]);
-    events("( `a` )", &["1 0 0 1", "3 2 2 2", "5 3 3 4", "4 4 4 4", "1 6 6 7"]);
+    events("[]", &["14 1 1 1 1"]);
+    events("[a ]", &["1 0 0 4 1"]);
+    events("~", &["6 0 1 1 1"]);
+    events("~ mmx", &["7 0 2 5 1"]);
+    events("( `a` )", &["1 0 0 1 1", "3 2 2 2 1", "5 3 3 4 1", "4 4 4 4 1", "1 6 6 7 1"]);
+}
+
+/// The one sample with lines: an LF at a record's own place is not before it.
+#[test]
+fn three_line_feeds() {
+    events("\n\n\n", &["1 0 0 1 1", "2 1 1 1 2", "1 1 1 2 2", "2 2 2 2 3", "1 2 2 3 3"]);
+    assert_eq!(records(b'E', "\n\n\n", 2, 3), ["1 2 2 3 3"]);
 }
 
 #[test]
 fn subscript_over_math() {
-    let want = ["1 0 0 1", "10 1 1 1", "1 2 2 3", "3 3 3 3", "5 4 4 5", "11 5 5 5", "5 5 5 7", "4 7 7 7"];
+    let want =
+        ["1 0 0 1 1", "10 1 1 1 1", "1 2 2 3 1", "3 3 3 3 1", "5 4 4 5 1", "11 5 5 5 1", "5 5 5 7 1", "4 7 7 7 1"];
     events("x_0`b.c`", &want);
 }
 
 #[test]
 fn byte_before_the_span() {
-    assert_eq!(records(b'E', "a_b_", 1, 4), ["10 1 1 1", "1 2 2 3", "11 3 3 3", "1 3 3 4"]);
-    assert_eq!(records(b'E', " _b_", 1, 4), ["12 1 1 1", "1 2 2 3", "13 3 3 3"]);
+    assert_eq!(records(b'E', "a_b_", 1, 4), ["10 1 1 1 1", "1 2 2 3 1", "11 3 3 3 1", "1 3 3 4 1"]);
+    assert_eq!(records(b'E', " _b_", 1, 4), ["12 1 1 1 1", "1 2 2 3 1", "13 3 3 3 1"]);
 }
 
 #[test]
@@ -106,14 +113,14 @@ fn credit_samples() {
 #[test]
 fn escape_past_the_span() {
     assert_eq!(records(b'C', "a__", 0, 2), Vec::<String>::new());
-    assert_eq!(records(b'C', "a_", 0, 2), ["2 1 0 0"]);
+    assert_eq!(records(b'C', "a_", 0, 2), ["2 1 0 0 1"]);
 }
 
 /// Request P5's: without a bibliography a tag is undefined; by the named choice it is not looked up.
 #[test]
 fn tags_without_a_bibliography() {
     let case = span_case(b'C', "[a]", 0, 3);
-    assert_eq!(run(&case), "C 0 1\n8 1 2 0\n");
+    assert_eq!(run(&case), "C 0 1\n8 1 2 0 1\n");
     assert_eq!(run(&Case { flag: NO_TAG_LOOKUP, ..case }), "C 0 0\n");
 }
 
@@ -135,8 +142,18 @@ fn unescape_after_the_mode_turned() {
 
 #[test]
 fn listing() {
-    let want = ["1 0 0 1", "10 1 1 1", "1 2 2 3", "11 3 3 3", "1 3 3 4", "6 4 6 11"];
+    let want = ["1 0 0 1 1", "10 1 1 1 1", "1 2 2 3 1", "11 3 3 3 1", "1 3 3 4 1", "6 4 6 11 1"];
     events("x_0 ~ ax-1.", &want);
+}
+
+/// Request P6's: 1 plus the LF bytes of the buffer before the place; of a diagnostic, before its first number.
+#[test]
+fn lines() {
+    assert_eq!(records(b'E', "\n\r\n x_0", 4, 7), ["1 4 4 5 3", "10 5 5 5 3", "1 6 6 7 3", "11 7 7 7 3"]);
+    assert_eq!(records(b'E', "a\n~\n\nb\n", 2, 7), ["6 2 5 6 2", "1 6 6 7 4"]);
+    assert_eq!(records(b'C', "\n<html>\n_\n_", 1, 11), ["2 8 0 0 3", "2 10 0 0 4", "3 1 7 0 2"]);
+    let open = ["4 11 12 0 5", "9 8 12 0 3", "10 1 12 0 2"];
+    assert_eq!(records(b'C', "\n<HTML>\n`\n\nb\n", 1, 12), open);
 }
 
 /// Request P4's: start and end of a label, and its entry.

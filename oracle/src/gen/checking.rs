@@ -6,6 +6,7 @@ use super::sink::{span_case, Sink};
 use super::texts::{any_span, each_sequence, each_span, each_text, mutated};
 use super::Plan;
 use crate::cases::{Case, CHECK_FLAGS, NO_TAG_LOOKUP};
+use crate::lines::LINED_WIDTH;
 
 const SYMBOLS: &[&str] = &["", "a", "`", "a`b", "ph", "->", "(", ")", "x", "_a"];
 const LABELS: &[&str] = &["a", "ax-1", "mp2", "x[A]", "a[b", "a`", "idi", "aa", "1__2", "a~"];
@@ -139,7 +140,7 @@ pub fn malformed(plan: &Plan, sink: &mut Sink) {
         }
         let text = comments::comment(&mut sink.rng);
         let (a, b) = any_span(&mut sink.rng, text.len());
-        let room = [0, 4, 64][sink.rng.below(3)];
+        let room = [0, LINED_WIDTH, 16 * LINED_WIDTH][sink.rng.below(3)];
         for flag in CHECK_FLAGS {
             sink.put(&Case { room, ..check(flag, &text, a, b) });
         }

@@ -3,6 +3,8 @@ use super::comments;
 use super::sink::{span_case, Sink};
 use super::texts::{any_span, each_text, mutated};
 use super::Plan;
+use crate::cases::Case;
+use crate::lines::LINED_WIDTH;
 
 /// Every text over the alphabets of the reading rules, whole and in every span.
 pub fn exhaustive(plan: &Plan, sink: &mut Sink) {
@@ -94,14 +96,14 @@ pub fn rooms(plan: &Plan, sink: &mut Sink) {
     for _ in 0..plan.either(300, 5_000) {
         let text = comments::comment(&mut sink.rng);
         let mut case = span_case(b'E', &text, 0, text.len());
-        for room in 0..=sink.needed(&case) + 5 {
+        for room in 0..=sink.needed(&case) + LINED_WIDTH + 1 {
             case.room = room;
             sink.put(&case);
         }
         let length = text.len();
         let refused = [(1, 0), (0, length + 1), (length + 1, length), (length + 1, length + 1), (0, u32::MAX as usize)];
         for (a, b) in refused {
-            sink.put(&crate::cases::Case { room: 8, ..span_case(b'E', &text, a, b) });
+            sink.put(&Case { room: 2 * LINED_WIDTH, ..span_case(b'E', &text, a, b) });
         }
         sink.put_every_room(case);
     }

@@ -1,6 +1,7 @@
 //! Where cases go: writes them, keeps track of the lent tables, and chooses rooms around what a call needs.
 use super::random::Rng;
 use crate::cases::{Case, MOST_TEXT, MOST_WORDS};
+use crate::lines::LINED_WIDTH;
 use crate::ops;
 use crate::tables::Tables;
 use std::io::Write;
@@ -63,7 +64,7 @@ impl<'a> Sink<'a> {
             head.lines().next().unwrap_or("").split('\t').skip(1).filter_map(|f| f.parse().ok()).collect();
         let (width, most) = match case.op {
             b'P' => (7, MOST_WORDS),
-            b'E' | b'C' => (4, MOST_WORDS),
+            b'E' | b'C' => (LINED_WIDTH, MOST_WORDS),
             b'H' => (3, MOST_WORDS),
             _ => (1, MOST_TEXT),
         };

@@ -95,7 +95,8 @@ pub fn events(sink: &mut Sink) {
     for text in ["a_b_", " _b_", "a`b` ", "~ a[b]", "\n\na"] {
         each_span(text.len(), &mut |a, b| sink.put(&Case { room: 64, ..span_case(b'E', text.as_bytes(), a, b) }));
     }
-    for room in [0, 1, 3, 4, 5, 7, 8, 9, 19, 20, 21] {
+    // around one record, two and all five
+    for room in [0, 1, 4, 5, 6, 9, 10, 11, 24, 25, 26] {
         sink.put(&Case { room, ..span_case(b'E', b"( `a` )", 0, 7) });
     }
     for (a, b) in [(1, 0), (0, 4), (4, 4), (u32::MAX as usize, u32::MAX as usize)] {

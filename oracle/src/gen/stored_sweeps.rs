@@ -4,6 +4,7 @@ use super::stepping::state_bytes;
 use super::stored::bytes;
 use super::texts::{each_span, SAMPLES, TELLING};
 use crate::cases::Case;
+use crate::lines::LINED_WIDTH;
 
 /// Each sample in every span with the room it needs, and whole in every room up to one more.
 fn samples(sink: &mut Sink, op: u8) {
@@ -64,7 +65,7 @@ pub fn steps(sink: &mut Sink) {
     for text in SAMPLES {
         let length = text.len() as u32;
         let state = state_bytes([length, 0, 0, 0, 0, 0, 0, 0, u32::MAX, 0]);
-        let events = sink.needed(&span_case(b'E', text.as_bytes(), 0, text.len())) / 4;
+        let events = sink.needed(&span_case(b'E', text.as_bytes(), 0, text.len())) / LINED_WIDTH;
         for c in 1..=events + 2 {
             sink.put(&Case { op: b'S', c, payload: [&state[..], text.as_bytes()].concat(), ..Case::default() });
         }

@@ -3,6 +3,7 @@ use super::sink::{span_case, table, Sink};
 use super::stored_comments::comments;
 use super::texts::{each_sequence, each_span};
 use crate::cases::{Case, CHECK_FLAGS};
+use crate::lines::LINED_WIDTH;
 
 /// Each diagnostic kind alone, in order, against the tables of `lend_few`.
 const ALONE: &[&str] = &["` a`", "a_ b", "<html>", "` c `", "~", "~ b", "[a``b]", "[B]", "` a ", "<HTML>"];
@@ -138,7 +139,7 @@ pub fn checks(sink: &mut Sink) {
             put(sink, TOGETHER, a, b, 64);
         }
     });
-    for room in 0..=48 {
+    for room in 0..=12 * LINED_WIDTH {
         put(sink, TOGETHER, 0, TOGETHER.len(), room);
     }
     for text in comments() {
@@ -198,7 +199,7 @@ fn tags(sink: &mut Sink) {
                 sink.put(&Case { flag, room: 64, ..span_case(b'C', text.as_bytes(), 0, text.len()) });
             }
             // every room, where 8 is all there is
-            for room in 0..=9 {
+            for room in 0..=2 * LINED_WIDTH + 1 {
                 sink.put(&Case { flag, room, ..span_case(b'C', b"[B] [b]", 0, 7) });
             }
         }
