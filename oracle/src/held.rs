@@ -80,6 +80,17 @@ fn tags_of(case: &Case, tables: &BTreeMap<u8, Case>) -> &'static str {
     }
 }
 
+/// What is counted together: entries from 10 on, as 10; lines from 10, from 100 and from 1000 on.
+fn together(what: &str, value: u64) -> u64 {
+    match (what, value) {
+        ("entry" | "link", 10..) => 10,
+        ("line" | "lines before", 1000..) => 1000,
+        ("line" | "lines before", 100..) => 100,
+        ("line" | "lines before", 10..) => 10,
+        _ => value,
+    }
+}
+
 /// Counts one answer; `tags` is told of a check.
 fn count(tally: &mut Tally, case: &Case, tags: &str, answer: &[u8]) {
     let text = String::from_utf8_lossy(answer);
@@ -88,9 +99,7 @@ fn count(tally: &mut Tally, case: &Case, tags: &str, answer: &[u8]) {
     let op = head[0].chars().next().unwrap_or('?');
     let mut add = |what: &'static str, value: &str| {
         if let Ok(value) = value.parse::<u64>() {
-            // entries from 10 on are counted together, as 10
-            let value = if matches!(what, "entry" | "link") { value.min(10) } else { value };
-            *tally.entry((op, what, value)).or_default() += 1;
+            *tally.entry((op, what, together(what, value))).or_default() += 1;
         }
     };
     if head.len() < 2 {
@@ -119,12 +128,19 @@ fn count(tally: &mut Tally, case: &Case, tags: &str, answer: &[u8]) {
             add("undefined tag", tags);
         }
     }
+    let lined = matches!(op, 'E' | 'C');
+    if lined && matches!(head[1], "0" | "7") {
+        let before = case.payload.iter().take(case.a as usize).filter(|&&byte| byte == b'\n').count();
+        add("lines before", &before.to_string());
+    }
     let kinds = match op {
         'E' | 'S' => "event",
         'P' | 'Q' => "parenthetical",
         'C' => "diagnostic",
         _ => "record",
     };
+    // the line of the record before
+    let mut last = 0;
     for line in lines {
         let mut words = line.split('\t');
         let first = words.next().unwrap_or("");
@@ -133,6 +149,17 @@ fn count(tally: &mut Tally, case: &Case, tags: &str, answer: &[u8]) {
             "state" => {}
             // a link has no kind, and is counted by its entry, its last word
             _ if op == 'H' => add("link", words.last().unwrap_or("")),
+            _ if lined => {
+                add(kinds, first);
+                let number = words.last().unwrap_or("");
+                add("line", number);
+                // a record that points back over lines is counted by its kind once more
+                let this = number.parse().unwrap_or(0);
+                if this < last {
+                    add("back", first);
+                }
+                last = this;
+            }
             _ => add(kinds, first),
         }
     }

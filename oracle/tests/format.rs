@@ -1,6 +1,6 @@
 //! What is ours and not the crate's: refusals and their order, rooms, tables, and what is no case.
 use oracle::cases::{Case, Next, CHECK_FLAGS};
-use oracle::gen::{bad, sink::table, stepping::state_bytes};
+use oracle::gen::{bad, sink::table, sink::Sink, stepping::state_bytes, stored, streams_for, Plan};
 use oracle::{ops, tables::Tables};
 
 /// The answers to a run of cases, as the program prints them.
@@ -180,4 +180,28 @@ fn tags_of_the_check() {
     for flag in [2, 255] {
         assert_eq!(run_cases(&[tag(flag), by_default.clone()]), "bad case\n");
     }
+}
+
+/// The records of E and C in what is stored and in the short streams about lines: each line counted anew from the buffer's start.
+#[test]
+fn lines_as_defined() {
+    let mut input = vec![];
+    let mut sink = Sink::new("lines", &mut input);
+    for stream in streams_for("ETC").filter(|s| s.name.ends_with("-lines") && !s.reads_mm) {
+        (stream.make)(&Plan { long: false, mm: None }, &mut sink);
+    }
+    b"EC".iter().for_each(|&op| stored::put(op, &mut sink));
+    let (mut rest, mut case, mut tables) = (&input[..], Case::default(), Tables::default());
+    let mut held = 0;
+    while case.read(&mut rest).unwrap() == Next::Case {
+        let mut out = vec![];
+        ops::answer(&case, &mut tables, &mut out).expect("a case");
+        for record in String::from_utf8(out).unwrap().lines().skip(1) {
+            let words: Vec<usize> = record.split('\t').map(|word| word.parse().unwrap()).collect();
+            let feeds = case.payload[..words[1]].iter().filter(|&&byte| byte == b'\n').count();
+            assert_eq!((words.len(), words[4]), (5, 1 + feeds), "{:?}", case.payload.escape_ascii().to_string());
+            held += 1;
+        }
+    }
+    assert!(held > 300_000, "{held} records");
 }

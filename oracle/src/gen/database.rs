@@ -97,6 +97,19 @@ fn with_changes(plan: &Plan, sink: &mut Sink, one_of: usize, emit: Emit) {
     }
 }
 
+/// Comments behind some of those before them, all in one buffer, so that lines stand before the span: in the short run one of so many.
+fn behind_others(plan: &Plan, sink: &mut Sink, one_of: usize, emit: Emit) {
+    let comments = plan.mm.map_or(&[][..], |mm| &mm.comments);
+    for last in (0..comments.len()).step_by(plan.either(one_of, 1)) {
+        let first = last.saturating_sub(sink.rng.below(40));
+        let buf = comments[first..=last].join(&b'\n');
+        if buf.len() <= MOST_BYTES as usize {
+            let a = buf.len() - comments[last].len() + 2;
+            emit(sink, &buf, a, (buf.len() - 2).max(a));
+        }
+    }
+}
+
 fn event(sink: &mut Sink, buf: &[u8], a: usize, b: usize) {
     sink.put_roomed(span_case(b'E', buf, a, b));
 }
@@ -143,6 +156,10 @@ pub fn events(plan: &Plan, sink: &mut Sink) {
 
 pub fn events_mutated(plan: &Plan, sink: &mut Sink) {
     with_changes(plan, sink, 4, event);
+}
+
+pub fn events_behind(plan: &Plan, sink: &mut Sink) {
+    behind_others(plan, sink, 16, event);
 }
 
 pub fn parentheticals(plan: &Plan, sink: &mut Sink) {
@@ -193,6 +210,14 @@ pub fn checks_mutated(plan: &Plan, sink: &mut Sink) {
     with_changes(plan, sink, 4, check);
     sink.lend_no_bibliography();
     with_changes(plan, sink, 4, check_tags);
+}
+
+/// The same of comments behind others: few in the short run, since each call checks all labels.
+pub fn checks_behind(plan: &Plan, sink: &mut Sink) {
+    lend_all(plan, sink);
+    behind_others(plan, sink, 64, check);
+    sink.lend_no_bibliography();
+    behind_others(plan, sink, 64, check_tags);
 }
 
 pub fn links(plan: &Plan, sink: &mut Sink) {

@@ -4,6 +4,7 @@ use super::sink::{span_case, table, Sink};
 use super::stepping::state_bytes;
 use super::Plan;
 use crate::cases::{Case, CHECK_FLAGS, MOST_BYTES, MOST_TEXT, MOST_WORDS};
+use crate::lines::LINED_WIDTH;
 
 const MOST: usize = MOST_BYTES as usize;
 
@@ -64,6 +65,23 @@ fn at_limits(plan: &Plan, sink: &mut Sink, op: u8, flag: u8, most: u32, texts: &
 pub fn events(plan: &Plan, sink: &mut Sink) {
     let texts = large_texts(plan, sink);
     at_limits(plan, sink, b'E', 0, MOST_WORDS, &texts);
+    behind_most_lines(sink, b'E');
+    // the longest list that the most room takes, and one word short: LF bytes give the most records, two each but for the first
+    let feeds = (MOST_WORDS / LINED_WIDTH + 1) / 2;
+    let text = filled(b"\n", feeds as usize);
+    let exact = (2 * feeds - 1) * LINED_WIDTH;
+    for room in [exact - 1, exact] {
+        sink.put(&Case { room, ..span_case(b'E', &text, 0, text.len()) });
+    }
+}
+
+/// Spans behind the most lines: LF bytes, and a mark at the payload's end.
+fn behind_most_lines(sink: &mut Sink, op: u8) {
+    for mark in ["x_0", "_", "~", "~ b~", "` a", "[b]", "<HTML>", "\n\n", ""] {
+        let front = MOST - mark.len();
+        let text = [&filled(b"\n", front)[..], mark.as_bytes()].concat();
+        sink.put_every_room(span_case(op, &text, front, MOST));
+    }
 }
 
 pub fn parentheticals(plan: &Plan, sink: &mut Sink) {
@@ -156,6 +174,7 @@ pub fn checks(plan: &Plan, sink: &mut Sink) {
     sink.lend(1, &["a", "ph"]);
     sink.lend(2, &["a", "ax-1"]);
     sink.lend(3, &["A"]);
+    behind_most_lines(sink, b'C');
     for flag in CHECK_FLAGS {
         at_limits(plan, sink, b'C', flag, MOST_WORDS, &texts);
     }

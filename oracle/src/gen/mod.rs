@@ -7,6 +7,7 @@ pub mod credits;
 pub mod database;
 pub mod dates;
 pub mod limits;
+pub mod lines;
 pub mod links;
 pub mod names;
 pub mod parsing;
@@ -15,6 +16,7 @@ pub mod sink;
 pub mod stepping;
 pub mod stored;
 pub mod stored_comments;
+pub mod stored_lines;
 pub mod stored_links;
 pub mod stored_sweeps;
 pub mod stored_tables;
@@ -81,9 +83,11 @@ pub const STREAMS: &[Stream] = &[
     plain("E-bytes", "E", parsing::bytes),
     plain("E-random", "E", parsing::random),
     plain("E-rooms", "E", parsing::rooms),
+    plain("E-lines", "E", lines::events),
     plain("E-limits", "E", limits::events),
     of_mm("E-database", "E", database::events),
     of_mm("E-mutated", "E", database::events_mutated),
+    of_mm("E-database-lines", "E", database::events_behind),
     plain("S-exhaustive", "S", stepping::exhaustive),
     plain("S-starts", "S", stepping::starts),
     plain("S-random", "S", stepping::random),
@@ -111,9 +115,11 @@ pub const STREAMS: &[Stream] = &[
     plain("C-random", "TC", checking::random),
     plain("C-tables", "TC", checking::tables),
     plain("C-malformed", "TC", checking::malformed),
+    plain("C-lines", "TC", lines::checks),
     plain("C-limits", "TC", limits::checks),
     of_mm("C-database", "TC", database::checks),
     of_mm("C-mutated", "TC", database::checks_mutated),
+    of_mm("C-database-lines", "TC", database::checks_behind),
     plain("H-exhaustive", "TH", links::exhaustive),
     plain("H-random", "TH", links::random),
     plain("H-tables", "TH", links::tables),

@@ -2,6 +2,7 @@
 //! A new op gets a function, here or in a file beside this one, and a line in `put`; stored_sweeps.rs adds what goes by the hundred.
 use super::sink::{span_case, Sink};
 use super::stored_comments::{credits, events, flags, parser_unescaping, steps};
+use super::stored_lines as lines;
 use super::stored_links::links;
 use super::stored_sweeps as sweeps;
 use super::stored_tables::{checks, lookups};
@@ -36,6 +37,11 @@ pub fn put(op: u8, sink: &mut Sink) {
         b'P' | b'Q' => sweeps::credits(sink, op),
         b'F' => sweeps::flags(sink),
         b'C' => sweeps::checks(sink),
+        _ => {}
+    }
+    match op {
+        b'E' => lines::events(sink),
+        b'C' => lines::checks(sink),
         _ => {}
     }
 }
