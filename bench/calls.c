@@ -1,5 +1,5 @@
 /* Makes the library's calls and does nothing else with their answers: what they cost with room for all that they write.
- * Reads cases (oracle/REPLAY.md) of the ops T E P U C H from a file on standard input. A room that is not 0 is lent whole: 524,288 words or
+ * Reads cases (oracle/REPLAY.md) of the ops T E P U C H from a file on standard input. A room that is not 0 is lent whole: 655,360 words or
  * 65,536 bytes. Prints the sum of the counts that were answered. Refuses (status 2) an input that is no file of such cases. */
 #include <stdint.h>
 #include <stdio.h>
@@ -20,7 +20,7 @@ size_t call_verify_markup_without_bibliography(BUF, NAMES(symbol), NAMES(label),
 size_t call_verify_markup_no_tag_lookup(BUF, NAMES(symbol), NAMES(label), uint32_t *out, size_t room);
 size_t call_links(BUF, NAMES(label), uint32_t *out, size_t room);
 
-enum { WORDS = 524288, BYTES = 65536 };
+enum { WORDS = 655360, BYTES = 65536 };
 static uint32_t words[WORDS];
 static uint8_t bytes[BYTES];
 

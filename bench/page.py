@@ -162,7 +162,7 @@ Written by `{facts['command']}` on {facts['date']}, with qemu {facts['qemu']}, o
 
 {facts['comments']:,} comments, {facts['bytes']:,} bytes. Instructions a byte, net of the same cases with an empty span: so reading the cases is not in it, nor, for the check, the check of the tables.
 The Rust and ours at room 0 are whole programs (the oracle and `replay`). At room 0 ours counts what it would write. The Rust always makes its list or text in memory of its own, so its one figure stands against both of ours.
-Ours with room enough (524,288 words or 65,536 bytes) is the call alone, made from C (`calls.c`), with all records or the text written.
+Ours with room enough (655,360 words or 65,536 bytes) is the call alone, made from C (`calls.c`), with all records or the text written.
 
 {set_mm(facts)}
 The check: with set.mm's {symbols:,} symbols, {labels:,} labels and a bibliography of {tags} tags. Each of our calls checks the tables anew ({facts['big']['room 0'][4]:,} instructions), too much for as many calls as there are comments. So ours is counted in two parts:

@@ -5,7 +5,7 @@ use std::io::{self, ErrorKind, Read, Write};
 /// Most bytes of a payload, but for tables.
 pub const MOST_BYTES: u32 = 65_536;
 /// Most words lent for records.
-pub const MOST_WORDS: u32 = 524_288;
+pub const MOST_WORDS: u32 = 655_360;
 /// Most bytes lent for text.
 pub const MOST_TEXT: u32 = 65_536;
 /// Op C's flag of the named choice: tags are not looked up, and table 3 is not looked at.

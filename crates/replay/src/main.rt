@@ -47,10 +47,10 @@ struct State {
 }
 
 // The largest room of a list op. Each area comes from a function of its own.
-fn word_area() -> [u32; 524288]
-    ensures { λ r. ⌜ 524288 ≡ length r ⌝ }
+fn word_area() -> [u32; 655360]
+    ensures { λ r. ⌜ 655360 ≡ length r ⌝ }
 {
-    [0u32; 524288]
+    [0u32; 655360]
 }
 
 // The names' bytes of the largest tables.

@@ -7,7 +7,7 @@ use Rattle.replay.proofs.word_area.Statement.{statement}
 use Rattle.replay.proofs.word_area.Tie as tie
 
 returns : tie.Need-returns
-returns c = sym (length-replicate {A = ℕ} 524288 0)
+returns c = sym (length-replicate {A = ℕ} 655360 0)
 
 pub word-area-spec : {M : Type 1} → statement M
 word-area-spec = tie.close (tie.spec returns)
