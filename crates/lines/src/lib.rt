@@ -7,6 +7,7 @@ pub use count::lines_between;
 use cursor::Line;
 use cursor::line_end;
 use cursor::line_of;
+use records::LONGEST;
 ghost use mathlib.Core.Path.{_≡_};
 ghost use Prim.Native.Nat.{min};
 ghost use Rattle.records.specs.Answer.{longest};
@@ -19,15 +20,15 @@ pub const LINED_WIDTH: usize = 5;
 fn word_of(line: usize) -> u32
     ensures { λ r. ⌜ r ≡ min line longest ⌝ }
 {
-    if line < 4294967295 {
+    if line < LONGEST {
         line as u32
     } else {
-        4294967295
+        u32::MAX
     }
 }
 
-// Fills in the lines of the first n records of `room`, as many as are whole. Places that go on are walked over once, and places that go
-// back as far as they go.
+// Fills in the lines of the first n records of `room`, as many as are whole. Most places lie in the line of the one before; else the bytes
+// between the two are walked over.
 pub fn fill_lines(buf: &[u8], n: usize, room: &mut [u32])
     ensures { λ _. ⌜ now (room .exit) ≡ filled (now (buf .entry)) n (now (room .entry)) ⌝ }
 {
@@ -42,9 +43,11 @@ pub fn fill_lines(buf: &[u8], n: usize, room: &mut [u32])
     };
     let mut at: usize = 0;
     while 0 < left {
-        let here = line_of(buf, line, room[at + 1] as usize);
-        room[at + 4] = word_of(here.number);
-        line = here;
+        let place = room[at + 1] as usize;
+        if (place < line.from) | (line.to < place) {
+            line = line_of(buf, line, place);
+        }
+        room[at + 4] = word_of(line.number);
         at += LINED_WIDTH;
         left -= 1;
     }

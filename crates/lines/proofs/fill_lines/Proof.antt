@@ -1,12 +1,17 @@
 -- `fill_lines` meets its contract: what is filled up to `at` and to be filled behind it is what is to be left.
 -- Assumes nothing.
-use mathlib.Core.Path.{_≡_, refl, sym, ap, _∙_}
+use mathlib.Core.Path.{_≡_, sym, subst}
 use Prim.Native.Nat.{_+_, _-_}
 use native.Mathlib.Omega.{arith}
-use lib.ListN.{length, length-set}
+use lib.ListN.{length, getD}
 use borrow.Author.Needs.{needs}
-use Rattle.lines.specs.Lines.{lineWord}
+use borrow.Author.Tests.{ltb-false}
+use mathlib.Core.Logic.{⊎-elim}
+use Rattle.lines.specs.Lines.{lineOf, lineWord}
+use Rattle.lines.specs.Cursor.{IsLine}
+use Rattle.lines.specs.declared.cursor.Line.{Line}
 use Rattle.lines.proofs.Laws.{line-start}
+use Rattle.lines.proofs.Moving.{none-holds, in-line}
 use Rattle.lines.proofs.Filling.{Fills, fills-starts, fills-on, fills-end, fills-none}
 use Rattle.lines.proofs.fill_lines.Statement.{statement}
 use Rattle.lines.proofs.fill_lines.Tie as tie
@@ -40,35 +45,54 @@ loop-holds c =
 abbrev entry : tie.At-loop Inv-loop μ-loop → tie.Start Inv-loop μ-loop
 entry l = l .before .before .before .before .before .before
 
-add-line-of : tie.Need-add-line-of Inv-loop μ-loop
-add-line-of c = let l = c .before in omega (arith, l .loop .inv .inside, l .loop .inv .long, entry l .good)
+add-place : tie.Need-add-place Inv-loop μ-loop
+add-place c = let l = c .before in omega (arith, l .loop .inv .inside, l .loop .inv .long, entry l .good)
 
-mul-line-of : tie.Need-mul-line-of Inv-loop μ-loop
-mul-line-of c = let l = c .before in omega (arith, l .loop .inv .inside, l .loop .inv .long, entry l .good)
+mul-place : tie.Need-mul-place Inv-loop μ-loop
+mul-place c = let l = c .before in omega (arith, l .loop .inv .inside, l .loop .inv .long, entry l .good)
 
-slice-read-line-of : tie.Need-slice-read-line-of Inv-loop μ-loop
-slice-read-line-of c = omega (arith, c .before .before .loop .inv .inside)
+slice-read-place : tie.Need-slice-read-place Inv-loop μ-loop
+slice-read-place c = omega (arith, c .before .before .loop .inv .inside)
 
-cast-line-of : tie.Need-cast-line-of Inv-loop μ-loop
-cast-line-of c = omega (arith, c .slice-known2 .given (c .before .before .loop .at + 1))
+cast-place : tie.Need-cast-place Inv-loop μ-loop
+cast-place c = omega (arith, c .slice-known2 .given (c .before .before .loop .at + 1))
 
 line-of-requires : tie.Need-line-of-requires Inv-loop μ-loop
-line-of-requires c κs = c .before .before .loop .inv .is-line
+line-of-requires c κs = c .before .before .before .before .before .loop .inv .is-line
 
 word-of-requires : tie.Need-word-of-requires Inv-loop μ-loop
 word-of-requires c κs = search needs
 
+-- a turn, seen from the place behind the word of the line
+module _ (c : tie.After-word-of Inv-loop μ-loop) where
+  abbrev head : tie.At-loop Inv-loop μ-loop
+  head = c .before .before .before .before .before .before
+
+  -- the line is that of the place
+  abbrev Here : Line → Type 0
+  Here l = let a = entry head .args in IsLine (a .buf .now) l × (l .number ≡ lineOf (a .buf .now) (getD (head .loop .room) (head .loop .at + 1) 0))
+
+  here : Here (c .before .if2 .line)
+  here =
+      ⊎-elim (λ w. subst Here (sym (w .2)) (w .1 .ensures))
+      (λ w.
+      let l = head .loop in
+      let is = l .inv .is-line in
+      let between = none-holds _ _ (w .0 .left) in
+      subst Here (sym (w .1)) (is, in-line (entry head .args .buf .now) (l .line) is _ (ltb-false _ _ (between .0)) (ltb-false _ _ (between .1))))
+      (c .before .if2 .came)
+
 add-room : tie.Need-add-room Inv-loop μ-loop
-add-room c = let l = c .before .before .before .before in omega (arith, l .loop .inv .inside, l .loop .inv .long, entry l .good)
+add-room c = let l = head c in omega (arith, l .loop .inv .inside, l .loop .inv .long, entry l .good)
 
 mul-room : tie.Need-mul-room Inv-loop μ-loop
-mul-room c = let l = c .before .before .before .before in omega (arith, l .loop .inv .inside, l .loop .inv .long, entry l .good)
+mul-room c = let l = head c in omega (arith, l .loop .inv .inside, l .loop .inv .long, entry l .good)
 
 slice-write-room : tie.Need-slice-write-room Inv-loop μ-loop
-slice-write-room c = omega (arith, c .before .before .before .before .loop .inv .inside)
+slice-write-room c = omega (arith, head c .loop .inv .inside)
 
 add-at : tie.Need-add-at Inv-loop μ-loop
-add-at c = let l = c .before .before .before .before in omega (arith, l .loop .inv .inside, l .loop .inv .long, entry l .good)
+add-at c = let l = head c in omega (arith, l .loop .inv .inside, l .loop .inv .long, entry l .good)
 
 sub-left : tie.Need-sub-left Inv-loop μ-loop
 sub-left c = omega arith
@@ -78,10 +102,7 @@ loop-less c = omega arith
 
 loop-again : tie.Need-loop-again Inv-loop μ-loop
 unfolding lineWord
-loop-again c =
-    let l = c .before .before .before .before in
-    let here = c .before .line-of in
-    fills-on (l .loop .inv) (omega arith) (here .result) (here .ensures .0) (c .word-of .result) (rw (← here .ensures .1) (c .word-of .ensures))
+loop-again c = fills-on (head c .loop .inv) (omega arith) _ (here c .0) (c .word-of .result) (rw (← here c .1) (c .word-of .ensures))
 
 same-length : tie.Need-same-length Inv-loop μ-loop
 same-length c = c .before .loop .inv .long
@@ -99,10 +120,10 @@ fill-lines-spec =
     returns
     line-end-requires
     loop-holds
-    add-line-of
-    mul-line-of
-    slice-read-line-of
-    cast-line-of
+    add-place
+    mul-place
+    slice-read-place
+    cast-place
     line-of-requires
     word-of-requires
     add-room
