@@ -10,7 +10,7 @@ use native.Mathlib.Omega.{arith}
 use lib.Dec.{leb, eqb}
 use lib.ListN.{length, drop, getD, List·getD-eq-default}
 use borrow.Author.Tests.{leb-true, leb-false}
-use Rattle.basics.proofs.Laws.{both}
+use Rattle.basics.proofs.Laws.{both, either}
 use Rattle.byte_rules.specs.Utf8.{byteOr, within, isTail, isOne, isTwo, isThree, isFour, charLen}
 use Rattle.byte_rules.proofs.CharLaws.{byte-in, char-from}
 
@@ -22,11 +22,6 @@ within-is low high c e = (leb-true low c (both _ _ e .0), leb-true c high (both 
 tail-is : (c : ℕ) → isTail c ≡ true → (0x80 ≤ c) × (c ≤ 0xBF)
 unfolding isTail
 tail-is c e = within-is 0x80 0xBF c e
-
--- one of two
-either : {A : Type 0} (p q : Bool) → (p || q) ≡ true → (p ≡ true → A) → (q ≡ true → A) → A
-either true q e f g = f refl
-either false q e f g = g e
 
 -- the bytes behind the first of a character
 two-is : (a b : ℕ) → isTwo a b ≡ true → (0x80 ≤ b) × (b ≤ 0xBF)

@@ -3,14 +3,13 @@
 use Prim.Native.Nat.{ℕ, _+_, _-_, _≤_, _<_}
 use mathlib.Core.Bool.{Bool, true, false, _&&_, _||_}
 use mathlib.Core.List.{List}
-use mathlib.Core.Logic.{_⊎_, inl, inr, ⊎-elim}
 use mathlib.Core.Path.{_≡_, refl, sym, _∙_}
 use native.Mathlib.Omega.{arith}
 use borrow.Author.Tests.{eqb-true, leb-true}
 use lib.Dec.{eqb, leb}
 use lib.ListN.{getD, length}
 use Rattle.byte_rules.specs.Classes.{isBlank, isCloser}
-use Rattle.basics.proofs.Laws.{both}
+use Rattle.basics.proofs.Laws.{both, either}
 use Rattle.look.specs.Look.{byteAt, blankAt, closerAt, wordAt}
 use Rattle.look.proofs.Laws.{byte-within, byte-is, blank-within, blank-is, closer-within, closer-is, word-byte}
 use Rattle.scans.specs.Marks.{space, lbracket}
@@ -20,10 +19,6 @@ use Rattle.scans.proofs.EndLaws.{blanks-passed}
 use Rattle.comment_parser.specs.Rules.{blankBefore, opensAhead, beforeOpen, afterClose}
 use Rattle.coverage.specs.Demand3.{Ahead, round, square, quote-at-start, quote-after-blank, Reads}
 use Rattle.coverage.proofs.Account.{BlankTo, Before, space-before, none-before, After, space-after, none-after}
-
-either : (a b : Bool) → (a || b) ≡ true → (a ≡ true) ⊎ (b ≡ true)
-either true b h = inl refl
-either false b h = inr h
 
 -- s is the buffer's text up to b
 pub record Cut (s buf : List ℕ) (b : ℕ) : Type 0 where
@@ -52,22 +47,18 @@ module _ {s buf : List ℕ} {b : ℕ} (cut : Cut s buf b) where
   ahead-blank : (q : ℕ) → getD buf q 0 ≡ 34 → blankBefore s q ≡ true → Ahead buf q
   unfolding blankBefore
   ahead-blank q e h =
-      ⊎-elim (λ z. quote-at-start e (eqb-true q 0 z))
+      either (eqb q 0) (blankAt s (q - 1)) h (λ z. quote-at-start e (eqb-true q 0 z))
       (λ t.
       by-less 0 q
       (λ l. quote-after-blank e l (blank-there (q - 1) t))
       (λ l. quote-at-start e (omega arith)))
-      (either (eqb q 0) (blankAt s (q - 1)) h)
 
   ahead-there : (q : ℕ) → opensAhead s q ≡ true → Ahead buf q
   unfolding opensAhead
   ahead-there q h =
-      ⊎-elim
-      (λ x.
-      ⊎-elim (λ y. round (byte-there q 40 y)) (λ y. square (byte-there q lbracket y))
-      (either (byteAt s q 40) (byteAt s q lbracket) x))
+      either (byteAt s q 40 || byteAt s q lbracket) (byteAt s q 34 && blankBefore s q) h
+      (λ x. either (byteAt s q 40) (byteAt s q lbracket) x (λ y. round (byte-there q 40 y)) (λ y. square (byte-there q lbracket y)))
       (λ x. let y = both (byteAt s q 34) (blankBefore s q) x in ahead-blank q (byte-there q 34 (y .0)) (y .1))
-      (either (byteAt s q 40 || byteAt s q lbracket) (byteAt s q 34 && blankBefore s q) h)
 
   -- what is dropped before an opening mark at p, and after a closing mark or a label that ends at p
   before-cases :

@@ -3,12 +3,13 @@
 use Prim.Native.Nat.{ℕ, _+_, _-_, _<_, _≤_}
 use mathlib.Core.Path.{_≡_, refl, ap, sym, _∙_}
 use mathlib.Core.List.{List, _++_}
-use mathlib.Core.Bool.{Bool, true, false, _||_, false≢true}
+use mathlib.Core.Bool.{true, false, _||_}
 use mathlib.Core.Option.{none, some}
 use native.Mathlib.Omega.{arith}
 use lib.Dec.{eqb, ltb}
 use lib.ListN.{length, set, replicate, length-append, length-replicate, replicate-append-replicate}
 use borrow.Author.Tests.{eqb-false, ltb-false}
+use Rattle.basics.proofs.Laws.{neither}
 use Rattle.records.specs.Answer.{badMonth}
 use Rattle.decimal.specs.Decimal.{decimal}
 use Rattle.records.specs.Over.{over}
@@ -39,13 +40,9 @@ zeros-more room k h =
     over-more (replicate k 48) room 48 k (sym (length-replicate k 48)) h ∙ ap (λ (text : List ℕ). over text room) (replicate-append-replicate k 1 48)
 
 -- what the test of the month tells
-either : (a b : Bool) → (a || b) ≡ false → (a ≡ false) × (b ≡ false)
-either true b e = (e, absurd (false≢true (sym e)))
-either false b e = (refl, e)
-
 pub month-good : (m : ℕ) → (eqb m 0 || ltb 12 m) ≡ false → (1 ≤ m) × (m ≤ 12)
 month-good m e =
-    let both = either (eqb m 0) (ltb 12 m) e in
+    let both = neither (eqb m 0) (ltb 12 m) e in
     (omega (arith, eqb-false m 0 (both .0)), ltb-false 12 m (both .1))
 
 -- the refusal

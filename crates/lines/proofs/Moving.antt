@@ -20,10 +20,6 @@ pub not-found : (found : Bool) → not found ≡ true → found ≡ false
 not-found true h = absurd (differ cc)
 not-found false h = refl
 
-pub none-holds : (a b : Bool) → (a || b) ≡ false → (a ≡ false) × (b ≡ false)
-none-holds true b h = absurd (differ cc)
-none-holds false b h = (refl, h)
-
 module _ (buf : List ℕ) where
   pub clear-none : (a : ℕ) → a ≤ length buf → Clear buf a a
   clear-none a h = record { order = omega arith; inside = h; same = refl }

@@ -8,6 +8,7 @@ use native.Mathlib.Nat.{le-refl}
 use native.Mathlib.Omega.{arith}
 use lib.Dec.{eqb}
 use lib.ListN.{length, getD}
+use Rattle.basics.proofs.Laws.{neither}
 use Rattle.look.specs.Look.{byteAt}
 use Rattle.look.proofs.Laws.{holds-in, byte-test, doubled-not, word-not}
 use Rattle.scans.specs.Marks.{tick, tilde, lbracket, under, less, lf, cr, space}
@@ -16,20 +17,12 @@ use Rattle.scans.specs.Plain.{isActive, isLabelActive, activeAt, plainSt
 use Rattle.scans.specs.declared.Step.the-variants.{One, Stop}
 use Rattle.scans.proofs.Laws.{by-less, clash, scan-one, scan-stop, scan-le, scan-ge, over}
 
-or-left : (a b : Bool) → (a || b) ≡ false → a ≡ false
-or-left true b h = h
-or-left false b h = refl
-
-or-right : (a b : Bool) → (a || b) ≡ false → b ≡ false
-or-right true b h = clash h refl
-or-right false b h = h
-
 -- one byte more
 pub lacks-more : (s : List ℕ) (i k b : ℕ) (found : Bool) → (found ≡ false → Lacks s i k b) → (found || eqb (getD s (i + k) 0) b) ≡ false → Lacks s i (k + 1) b
 lacks-more s i k b found f h j l =
     by-less j k
-    (λ g. f (or-left found (eqb (getD s (i + k) 0) b) h) j g)
-    (λ g. let z : j ≡ k = omega arith in rw z (or-right found (eqb (getD s (i + k) 0) b) h))
+    (λ g. f (neither found (eqb (getD s (i + k) 0) b) h .0) j g)
+    (λ g. let z : j ≡ k = omega arith in rw z (neither found (eqb (getD s (i + k) 0) b) h .1))
 
 -- none of six tests
 pub record Free (a b c d e f : Bool) : Type 0 where

@@ -13,7 +13,7 @@ use borrow.Author.Tests.{ltb-true, eqb-false}
 use Rattle.basics.specs.Member.{In}
 use Rattle.basics.specs.declared.Place.{Place}
 use Rattle.basics.specs.declared.Place.the-variants.{At, Nowhere}
-use Rattle.basics.proofs.Laws.{both}
+use Rattle.basics.proofs.Laws.{both, either}
 use Rattle.byte_rules.specs.Reading.{rust}
 use Rattle.look.specs.Look.{byteAt}
 use Rattle.look.proofs.Laws.{holds-within, byte-within}
@@ -98,12 +98,8 @@ module _ (buf : List ℕ) (short : length buf ≤ longest) where
       let t = byteAt buf i tick in
       let u = byteAt buf i tilde in
       fit-append buf (when (t || u) (bibEscape i a e)) (bibEscapes buf a e left (i + 1))
-      (fit-when (t || u) 7 i a e (λ h. fits-inside buf i (either t u (byte-within buf i tick) (byte-within buf i tilde) h) short))
+      (fit-when (t || u) 7 i a e (λ h. fits-inside buf i (either t u h (byte-within buf i tick) (byte-within buf i tilde)) short))
       (fit-escapes a e left (i + 1))
-    where
-      either : {P : Type 0} (t u : Bool) → (t ≡ true → P) → (u ≡ true → P) → (t || u) ≡ true → P
-      either true u f g h = f refl
-      either false u f g h = g h
 
   module _ (i : ℕ) (f : Fits buf i) where
     fit-before : AllFit buf (spaceBefore buf i)

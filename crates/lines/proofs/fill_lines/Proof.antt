@@ -7,11 +7,12 @@ use lib.ListN.{length, getD}
 use borrow.Author.Needs.{needs}
 use borrow.Author.Tests.{ltb-false}
 use mathlib.Core.Logic.{⊎-elim}
+use Rattle.basics.proofs.Laws.{neither}
 use Rattle.lines.specs.Lines.{lineOf, lineWord}
 use Rattle.lines.specs.Cursor.{IsLine}
 use Rattle.lines.specs.declared.cursor.Line.{Line}
 use Rattle.lines.proofs.Laws.{line-start}
-use Rattle.lines.proofs.Moving.{none-holds, in-line}
+use Rattle.lines.proofs.Moving.{in-line}
 use Rattle.lines.proofs.Filling.{Fills, fills-starts, fills-on, fills-end, fills-none}
 use Rattle.lines.proofs.fill_lines.Statement.{statement}
 use Rattle.lines.proofs.fill_lines.Tie as tie
@@ -78,7 +79,7 @@ module _ (c : tie.After-word-of Inv-loop μ-loop) where
       (λ w.
       let l = head .loop in
       let is = l .inv .is-line in
-      let between = none-holds _ _ (w .0 .left) in
+      let between = neither _ _ (w .0 .left) in
       subst Here (sym (w .1)) (is, in-line (entry head .args .buf .now) (l .line) is _ (ltb-false _ _ (between .0)) (ltb-false _ _ (between .1))))
       (c .before .if2 .came)
 
