@@ -76,8 +76,7 @@ def set_mm(facts):
     made = []
     for call, op, flag in CALLS:
         if op == "C":
-            rust, few, added = facts["check"]
-            ours, written = few + added, []
+            rust, ours, *written = facts["check"][0], *map(sum, facts["check"][1:])
         else:
             rust, ours, *written = facts["rows"][op, flag]
         most, aim = GOALS.get((op, flag), (None, None))
@@ -151,7 +150,7 @@ def written(facts):
     squares = facts["squares"]
     worst = max(max(sum(large), sum(enough)) for _, _, large, _, enough in squares)
     grown = max(max(growth(small, large), growth(few_enough, enough)) for _, small, large, few_enough, enough in squares)
-    _, few, added = facts["check"]
+    _, (few, added), (few_enough, added_enough) = facts["check"]
     return f"""# Instructions, beside the Rust
 
 Written by `{facts['command']}` on {facts['date']}, with qemu {facts['qemu']}, on {facts['machine']}. Executed x86-64 instructions, counted by qemu-user with `count.c`: exact, and the same at each run and on each machine
@@ -166,7 +165,7 @@ Ours with room enough (655,360 words or 65,536 bytes) is the call alone, made fr
 
 {set_mm(facts)}
 The check: with set.mm's {symbols:,} symbols, {labels:,} labels and a bibliography of {tags} tags. Each of our calls checks the tables anew ({facts['big']['room 0'][4]:,} instructions), too much for as many calls as there are comments. So ours is counted in two parts:
-{few:.2f} a byte on all comments with one label in {facts['few']}, and {added:.2f} that the other labels add, on one comment in {facts['every']} ({facts['sample']:,} of them, {facts['sample_bytes']:,} bytes).
+{few:.2f} a byte on all comments with one label in {facts['few']}, and {added:.2f} that the other labels add, on one comment in {facts['every']} ({facts['sample']:,} of them, {facts['sample_bytes']:,} bytes); with room enough {few_enough:.2f} and {added_enough:.2f}.
 
 ## Links
 

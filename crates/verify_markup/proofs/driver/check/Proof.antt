@@ -19,7 +19,7 @@ use Rattle.name_table.specs.Search.{entryOf, searched}
 use Rattle.verify_markup.specs.Diag.{diagWidth}
 use Rattle.verify_markup.specs.Items.{Names}
 use Rattle.verify_markup.specs.List.{diagnostics}
-use Rattle.verify_markup.specs.Check.{Tables, tablesRefusal, checkRefusal, namesBy}
+use Rattle.verify_markup.specs.Check.{Tables, tablesRefusal, checkRefusal, namesBy, checkDiags}
 use Rattle.verify_markup.specs.Lent.{lentTables}
 use Rattle.verify_markup.proofs.LineLaws.{diagnostics-fit, diagnostics-wide}
 use Rattle.verify_markup.proofs.CheckLaws.{names-good}
@@ -98,12 +98,12 @@ module _ (c : tie.After-fill-lines) where
   abbrev start : tie.Start
   start = entry (told .before .before .before)
 
-  -- by the search, and by the walk
+  -- by the search
   abbrev found : List (List ℕ)
   found = let a = start .args in diagnostics (namesBy searched (lent told)) (a .buf .now) (a .start) (a .end)
 
   abbrev due : List (List ℕ)
-  due = let a = start .args in diagnostics (namesBy entryOf (lent told)) (a .buf .now) (a .start) (a .end)
+  due = let a = start .args in checkDiags (a .buf .now) (a .start) (a .end) (lent told)
 
   wide : Wide diagWidth found
   wide = let a = start .args in diagnostics-wide (namesBy searched (lent told)) (a .buf .now) (a .start) (a .end)
@@ -114,12 +114,12 @@ module _ (c : tie.After-fill-lines) where
       let s = span-accepted _ _ _ (sym (span-good (told .before .before .before))) in
       diagnostics-fit (a .buf .now) (omega (arith, s)) (namesBy searched (lent told)) (a .start) (a .end)
 
-  counted : listed .lay-all .result ≡ length (lined (start .args .buf .now) due)
+  counted : listed .lay-all .result ≡ length due
   counted =
       let a = start .args in
       lined-counted (a .buf .now) found (a .out .now) wide fit (listed .lay-all .ensures .0) (listed .lay-all .ensures .1) ∙ ap (λ (ws : List (List ℕ)). length (lined (a .buf .now) ws)) (all-same told)
 
-  filled-in : c .fill-lines .last .1 .1 .0 ≡ laid diagWidth (lined (start .args .buf .now) due) (start .args .out .now)
+  filled-in : c .fill-lines .last .1 .1 .0 ≡ laid diagWidth due (start .args .out .now)
   filled-in =
       let a = start .args in
       c .fill-lines .ensures
