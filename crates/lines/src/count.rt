@@ -1,10 +1,10 @@
 // How many lines lie between two places.
 use basics::least;
 ghost use mathlib.Core.Path.{_≡_};
+ghost use mathlib.Core.List.{[], _∷_};
 ghost use Prim.Native.Nat.{_+_, _-_, _≤_};
 ghost use lib.ListN.{length};
 ghost use Rattle.lines.specs.Lines.{lfIn, lineOf};
-ghost use mathlib.Core.List.{[], _∷_};
 
 // 1 for an LF, else 0.
 fn lf_bit(c: u8) -> u8

@@ -1,7 +1,7 @@
 // A line of a buffer, as the filling goes from place to place: most places lie in the line of the place before.
 use crate::count::lines_between;
 ghost use mathlib.Core.Path.{_≡_};
-ghost use mathlib.Core.Bool.{true, false};
+ghost use mathlib.Core.Bool.{true};
 ghost use Prim.Native.Nat.{_+_, _≤_};
 ghost use lib.ListN.{length};
 ghost use Rattle.lines.specs.Lines.{lineOf};

@@ -1,10 +1,9 @@
 -- `lines_between` meets its contract: the counts of the parts add up to the growth of the line since `from`.
 -- Assumes nothing.
 use Prim.Native.Nat.{_+_, _-_, _≤_}
-use mathlib.Core.Path.{_≡_, sym, ap, _∙_}
+use mathlib.Core.Path.{_≡_, ap, _∙_}
 use native.Mathlib.Omega.{arith}
 use borrow.Author.Needs.{needs}
-use lib.ListN.{length}
 use Rattle.lines.specs.Lines.{lineOf}
 use Rattle.lines.proofs.Laws.{line-grows, line-cut}
 use Rattle.lines.proofs.count.lines_between.Statement.{statement}
