@@ -9,7 +9,6 @@ use borrow.Author.Tests.{le-leb, leb-true, eqb-true, ne-eqb}
 use Rattle.basics.proofs.Laws.{both}
 use Rattle.byte_rules.specs.Classes.{isBlank, isDigit, isCapital, isSmall, isCreditSpace, isTextEscape, isLabelEscape, isMathEscape}
 use Rattle.byte_rules.specs.Names.{upper}
-use Rattle.byte_rules.specs.Reading.{barsNothing}
 
 -- the blanks that are spoken of by name
 pub space-is-blank : isBlank 32 ≡ true
@@ -64,11 +63,6 @@ upper-not b c h n = go (isSmall c) refl
     go : (t : Bool) → isSmall c ≡ t → eqb (cond t (c - 32) c) b ≡ false
     go true t = let x = small-is c t in ne-eqb (c - 32) b (λ z. omega (arith, x .0, h))
     go false t = n
-
--- the Rust's reading bars no byte
-pub nothing-barred : (c : ℕ) → barsNothing c ≡ false
-unfolding barsNothing
-nothing-barred c = refl
 
 -- the spaces of a credit are ASCII, and `,` is none
 pub credit-space-low : (c : ℕ) → isCreditSpace c ≡ true → c < 128

@@ -2,6 +2,7 @@
 // Four classes stand on one sheet (classes.rt). What a text asks for most is told by a comparison, before the sheet is read.
 mod classes;
 pub mod names;
+mod reading;
 pub mod utf8;
 
 use classes::ALPHANUMERIC;
@@ -9,6 +10,7 @@ use classes::BLANK;
 use classes::CLOSER;
 use classes::ITALIC_OPENER;
 use classes::mask;
+pub use reading::Reading;
 ghost use mathlib.Core.Path.{_≡_};
 ghost use Rattle.byte_rules.specs.Classes.{isBlank, isCloser, isItalicOpener, isDigit, isCapital, isSmall, isAlphanumeric};
 ghost use Rattle.byte_rules.specs.Classes.{isCreditSpace, isAuthorByte, isTextEscape, isLabelEscape, isMathEscape};

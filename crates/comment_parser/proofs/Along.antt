@@ -1,7 +1,7 @@
--- A loop over the events that hands the note on from call to call, in the Rust's reading: what holds along the way, and what each answer tells.
+-- A loop over the events that hands the note on from call to call: what holds along the way, and what each answer tells.
 -- Assumes nothing.
 use Prim.Native.Nat.{ℕ}
-use mathlib.Core.Path.{_≡_, refl, _∙_}
+use mathlib.Core.Path.{_≡_, refl, ap, _∙_}
 use mathlib.Core.Logic.{inl, inr}
 use mathlib.Core.List.{List, [], _∷_}
 use mathlib.Core.Option.{none, some}
@@ -10,7 +10,8 @@ use lib.ListN.{length, take}
 use types.Run.{OneOf}
 use denote.Enum.Declared.{tagOf}
 use Rattle.records.specs.Answer.{longest}
-use Rattle.byte_rules.specs.Reading.{rust}
+use Rattle.byte_rules.specs.Reading.{Reading, named}
+use Rattle.byte_rules.specs.declared.reading.Reading.{Reading as Name}
 use Rattle.scans.specs.Notes.{Holds}
 use Rattle.scans.specs.declared.Note.{Note}
 use Rattle.scans.proofs.TagLaws.{holds-nothing}
@@ -30,13 +31,14 @@ use Rattle.comment_parser.proofs.Turns.{GoesOn}
 use Rattle.comment_parser.proofs.Events.{seen-on, stays-accepted}
 use Rattle.comment_parser.proofs.Reached.{Reached, Lies, fresh-reached, seen-lies}
 
--- a state on the way, with the note to go on with
-pub record Along (buf : List ℕ) (st : ParserState) (note : Note) : Type 0 where
+-- a state on the way, in the reading that it names, with the note to go on with
+pub record Along (rd : Reading) (buf : List ℕ) (st : ParserState) (note : Note) : Type 0 where
+  pub reads : named (st .reading) ≡ rd
   pub reached : Reached st
   pub noted : Holds (take (st .end) buf) note
 
-pub along-starts : (buf : List ℕ) (start end : ℕ) (note : Note) → note .to ≡ 0 → Along buf (fresh start end) note
-along-starts buf start end note z = record { reached = fresh-reached start end; noted = holds-nothing (take end buf) note z }
+pub along-starts : (name : Name) (buf : List ℕ) (start end : ℕ) (note : Note) → note .to ≡ 0 → Along (named name) buf (fresh name start end) note
+along-starts name buf start end note z = record { reads = refl; reached = fresh-reached name start end; noted = holds-nothing (take end buf) note z }
 
 -- an answer that is no event, told by its tag, as where a `let .. else` takes the else
 no-event : (n : Next) → OneOf (1 ∷ 2 ∷ []) (tagOf the-type n) → paired (stepAnswer n .event) (stepAnswer n .state) ≡ none
@@ -46,34 +48,34 @@ no-event (End t) h = refl
 no-event (Refused t r) h = refl
 
 -- what `next_noted` promises of its answer
-module _ {buf : List ℕ} {st : ParserState} {note : Note} {r : NextNoted} (a : Along buf st note) (says : NextBy buf st note r) where
-  along-seen : (n : Next) → r .next ≡ n → seen rust buf st ≡ paired (stepAnswer n .event) (stepAnswer n .state)
+module _ {rd : Reading} {buf : List ℕ} {st : ParserState} {note : Note} {r : NextNoted} (a : Along rd buf st note) (says : NextBy buf st note r) where
+  along-seen : (n : Next) → r .next ≡ n → seen rd buf st ≡ paired (stepAnswer n .event) (stepAnswer n .state)
   unfolding seen
-  along-seen n e = rw (← says .reads (a .noted) .is, e)
+  along-seen n e = rw (← a .reads, ← says .reads (a .noted) .is, e)
 
-  pub along-end : OneOf (1 ∷ 2 ∷ []) (tagOf the-type (r .next)) → seen rust buf st ≡ none
+  pub along-end : OneOf (1 ∷ 2 ∷ []) (tagOf the-type (r .next)) → seen rd buf st ≡ none
   along-end k = along-seen (r .next) refl ∙ no-event (r .next) k
 
   -- an event: it is seen, less is to come, its numbers fit a word, it lies in the buffer, and the way goes on from the state after it
   module _ {i : CommentItem} {t : ParserState} (e : r .next ≡ Event t i) where
-    pub along-event : seen rust buf st ≡ some (i, t)
+    pub along-event : seen rd buf st ≡ some (i, t)
     along-event = along-seen (Event t i) e
 
     pub along-less : GoesOn st t
-    along-less = seen-on rust buf st (i, t) along-event
+    along-less = seen-on rd buf st (i, t) along-event
 
     lies : Lies i t
-    lies = seen-lies rust buf st (i, t) along-event (a .reached)
+    lies = seen-lies rd buf st (i, t) along-event (a .reached)
 
     pub along-within : Within 0 longest (placedOf i)
     along-within =
-        let k = stays-accepted rust buf st (i, t) along-event in
+        let k = stays-accepted rd buf st (i, t) along-event in
         record { above = omega arith; placed = lies .within .placed; ordered = lies .within .ordered; below = omega (arith, lies .within .below, k) }
 
     pub along-inside : Within 0 (length buf) (placedOf i)
     along-inside =
-        let k = stays-accepted rust buf st (i, t) along-event in
+        let k = stays-accepted rd buf st (i, t) along-event in
         record { above = omega arith; placed = lies .within .placed; ordered = lies .within .ordered; below = omega (arith, lies .within .below, k .inside, k .fits) }
 
-    pub along-on : Along buf t (r .note)
-    along-on = record { reached = lies .reached; noted = rw (along-less .same-end) (says .reads (a .noted) .holds) }
+    pub along-on : Along rd buf t (r .note)
+    along-on = record { reads = ap named (along-less .same-reading) ∙ a .reads; reached = lies .reached; noted = rw (along-less .same-end) (says .reads (a .noted) .holds) }

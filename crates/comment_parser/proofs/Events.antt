@@ -13,10 +13,12 @@ use Rattle.records.specs.Answer.{Answer, stateRefusal}
 use Rattle.records.specs.Produced.{grow}
 use Rattle.records.proofs.Answers.{state-accepted, state-good}
 use Rattle.records.proofs.ProducedLaws.{produced-step}
-use Rattle.byte_rules.specs.Reading.{Reading}
-use Rattle.comment_parser.specs.State.{Accepted}
+use Rattle.byte_rules.specs.Reading.{Reading, named}
+use Rattle.byte_rules.specs.declared.reading.Reading.{Reading as Name}
+use Rattle.byte_rules.specs.declared.reading.Reading.the-variants.{Rust, Strict}
+use Rattle.comment_parser.specs.State.{Accepted, fresh}
 use Rattle.comment_parser.specs.Next.{stepAnswer, answered, nextOf}
-use Rattle.comment_parser.specs.Events.{left, paired, seen, eventsFrom}
+use Rattle.comment_parser.specs.Events.{left, paired, seen, eventsFrom, eventsOf}
 use Rattle.comment_parser.specs.declared.ParserState.{ParserState}
 use Rattle.comment_parser.specs.declared.CommentItem.{CommentItem}
 use Rattle.comment_parser.specs.declared.Next.{Next}
@@ -67,7 +69,7 @@ module _ (rd : Reading) (buf : List ℕ) (st : ParserState) where
   pub seen-answered : (p : CommentItem × ParserState) → seen rd buf st ≡ some p → answered rd buf st ≡ Event (p .1) (p .0)
   seen-answered p h = from-next (answered rd buf st) refl p (sym (seen-is (seen-accepted p h)) ∙ h)
 
-  -- an event keeps the end, moves on, and leaves less to come
+  -- an event keeps the reading and the end, moves on, and leaves less to come
   pub seen-on : (p : CommentItem × ParserState) → seen rd buf st ≡ some p → GoesOn st (p .1)
   seen-on p h = answered-on rd buf st (seen-accepted p h) (p .0) (p .1) (seen-answered p h)
 
@@ -88,6 +90,12 @@ module _ (rd : Reading) (buf : List ℕ) where
 
   pub events-end : (st : ParserState) → seen rd buf st ≡ none → eventsFrom rd buf st ≡ []
   events-end st h = events-step st ∙ rw h
+
+-- the events of a span in a reading that is chosen by name are those from a fresh start that names it
+pub events-start : (name : Name) (buf : List ℕ) (a b : ℕ) → eventsFrom (named name) buf (fresh name a b) ≡ eventsOf (named name) buf a b
+unfolding eventsOf
+events-start Rust buf a b = refl
+events-start Strict buf a b = refl
 
 module _ (rd : Reading) (buf : List ℕ) (P : ParserState → Type 0) (R : CommentItem → Type 0)
     (on : (st : ParserState) (p : CommentItem × ParserState) → seen rd buf st ≡ some p → P st → R (p .0) × P (p .1)) where

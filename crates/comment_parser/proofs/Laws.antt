@@ -7,7 +7,7 @@ use mathlib.Core.List.{List}
 use lib.ListN.{length}
 use native.Mathlib.Omega.{arith}
 use borrow.Author.Tests.{lt-ltb, le-ltb, ne-eqb}
-use Rattle.byte_rules.specs.Reading.{Reading, rust}
+use Rattle.byte_rules.specs.Reading.{Reading}
 use Rattle.look.specs.Look.{byteAt, blankAt}
 use Rattle.scans.specs.Marks.{lf}
 use Rattle.scans.specs.Plain.{activeAt, plainStep, plainEnd}
@@ -89,27 +89,27 @@ html-cases : (b : Bool) (x : Act) → x ≡ One → elim b [ true ↦ One | fals
 html-cases true x e = refl
 html-cases false x e = e
 
-module _ (s : List ℕ) (st : ParserState) (from k : ℕ) (h : k < length s) (m : activeAt s k ≡ false) (o : st .math ≡ false) (n : k + 1 ≡ st .«end_subscript» → ⊥) where
-  plain-is : plainRule rust s st from k ≡ One
+module _ (rd : Reading) (s : List ℕ) (st : ParserState) (from k : ℕ) (h : k < length s) (m : activeAt s k ≡ false) (o : st .math ≡ false) (n : k + 1 ≡ st .«end_subscript» → ⊥) where
+  plain-is : plainRule rd s st from k ≡ One
   unfolding plainRule
   plain-is = let f = active-free s k h m in rw (plainRule, f .not-5, f .not-6)
 
-  text-is : textRule rust s st from k ≡ One
+  text-is : textRule rd s st from k ≡ One
   unfolding textRule
-  text-is = let f = active-free s k h m in rw (textRule, f .not-2, f .not-3, f .not-4) (html-cases (st .html) (plainRule rust s st from k) plain-is)
+  text-is = let f = active-free s k h m in rw (textRule, f .not-2, f .not-3, f .not-4) (html-cases (st .html) (plainRule rd s st from k) plain-is)
 
-  first-is : firstRule rust s st from k ≡ One
+  first-is : firstRule rd s st from k ≡ One
   unfolding firstRule
   first-is = let f = active-free s k h m in rw (firstRule, f .not-1, o) text-is
 
-  act-one : passAct rust s st from k ≡ One
+  act-one : passAct rd s st from k ≡ One
   unfolding passAct stepTo
   act-one = rw (passAct, first-is, stepTo, ne-eqb (k + 1) (st .«end_subscript») n)
 
-  pass-one : passStep rust s st from k ≡ StepOne
-  pass-one = step-is rust s st from k One (sym act-one)
+  pass-one : passStep rd s st from k ≡ StepOne
+  pass-one = step-is rd s st from k One (sym act-one)
 
--- a run goes on past plain bytes, up to the step that reaches the noted subscript end
+-- a run goes on past plain bytes, in any reading, up to the step that reaches the noted subscript end
 pub skip-to : (s : List ℕ) (st : ParserState) (p r : ℕ) → st .math ≡ false → r ≤ plainEnd s p → (length s ≤ p → r ≡ length s) → (p ≤ length s → p ≤ r) → ((k : ℕ) → p ≤ k → k < r → k + 1 ≡ st .«end_subscript» → ⊥) → Skipped s st p r
 skip-to s st p r o a b c d =
     let w : plainEnd s p ≤ length s = scan-le (plainStep s) (length s) p in
@@ -117,13 +117,13 @@ skip-to s st p r o a b c d =
     (λ l.
     let e : r ≡ length s = b (omega arith) in
     record {
-      over = λ from. scan-end (passStep rust s st from) (length s) p (omega arith) ∙ sym (scan-end (passStep rust s st from) (length s) r (omega arith));
+      over = λ rd from. scan-end (passStep rd s st from) (length s) p (omega arith) ∙ sym (scan-end (passStep rd s st from) (length s) r (omega arith));
       onward = λ k x y. omega arith;
     })
     (λ l.
     let e : p ≤ r = c l in
     record {
-      over = λ from. scan-over (passStep rust s st from) (length s) p r e (omega arith) (λ k x y. pass-one s st from k (omega arith) (plain-passed s p k x (omega arith)) o (d k x y));
+      over = λ rd from. scan-over (passStep rd s st from) (length s) p r e (omega arith) (λ k x y. pass-one rd s st from k (omega arith) (plain-passed s p k x (omega arith)) o (d k x y));
       onward = λ k x y. omega arith;
     })
 

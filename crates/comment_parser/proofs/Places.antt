@@ -178,7 +178,7 @@ stands p m (over n l w) = tt
 
 pub every-place : EveryPlace
 unfolding eventsOf
-every-place rd buf start end = every-event rd buf Way (λ (i : CommentItem). PlaceOf (take end buf) (placedOf i .place)) on (fresh start end) (refl, record { noted = inl refl; waits = tt })
+every-place rd buf start end = every-event rd buf Way (λ (i : CommentItem). PlaceOf (take end buf) (placedOf i .place)) on (fresh (rd .name) start end) (refl, record { noted = inl refl; waits = tt })
   where
     Way : ParserState → Type 0
     Way st = (st .end ≡ end) × Stands (take end buf) st

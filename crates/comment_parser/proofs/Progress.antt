@@ -1,4 +1,4 @@
--- What a pass leaves, in any reading, shown rule by rule: the run ends where it began or later, the state after it stands in the text behind the run, what
+-- What a pass leaves, in any reading, shown rule by rule: the state's reading and end stay, the run ends where it began or later, the state after it stands in the text behind the run, what
 -- waits lies between them, and where nothing waits the run is not empty or the text has ended.
 -- Assumes nothing.
 use Prim.Native.Nat.{ℕ, zero, suc, _+_, _-_, _≤_, _<_}
@@ -41,6 +41,7 @@ Waits low high (Item i) = Within low high (placedOf i)
 
 -- the state after a run that began at `from` and ended at q: with an event waiting it has moved on; with none the run is not empty, or has come to the end
 pub record After (s : List ℕ) (st : ParserState) (from q : ℕ) (t : ParserState) : Type 0 where
+  pub same-reading : t .reading ≡ st .reading
   pub same-end : t .end ≡ st .end
   pub starts : from ≤ q
   pub past-run : q ≤ t .pos
@@ -97,18 +98,18 @@ module _ (s : List ℕ) (st : ParserState) (from p : ℕ) (h : from ≤ p) (i : 
 
   -- the run ends at q with an event, and the next starts at x, past p
   ends-at :
-      (q x : ℕ) (t : ParserState) {c : CommentItem} → t .end ≡ st .end → t .pos ≡ x → t .waiting ≡ Item c → from ≤ q → q ≤ p → p < x → x ≤ length s →
+      (q x : ℕ) (t : ParserState) {c : CommentItem} → t .reading ≡ st .reading → t .end ≡ st .end → t .pos ≡ x → t .waiting ≡ Item c → from ≤ q → q ≤ p → p < x → x ≤ length s →
       Waits q (t .pos) (t .waiting) → Sound (Ends q t)
-  ends-at q x t e f g a b c d w =
-      record { same-end = e; starts = a; past-run = omega arith; within = omega arith; on = inl (omega arith); full = λ n. absurd (differ cc); waits = w }
+  ends-at q x t r e f g a b c d w =
+      record { same-reading = r; same-end = e; starts = a; past-run = omega arith; within = omega arith; on = inl (omega arith); full = λ n. absurd (differ cc); waits = w }
 
   tick-sound : Sound (tickRule s st from p)
   unfolding tickRule
   tick-sound =
       by-test Sound (doubledAt s p tick) (λ t. omega (arith, doubled-within s p tick t)) (λ _.
       by-test Sound (st .math)
-      (λ _. let c = after-close-in s (p + 1) (omega arith) in ends-at p (afterClose s (p + 1)) _ refl refl refl h (le-refl p) (omega arith) (omega arith) (omega arith))
-      (λ _. let o = before-open-in s from p h in ends-at (beforeOpen s from p) (p + 1) _ refl refl refl (o .0) (o .1) (omega arith) (omega arith) (omega arith)))
+      (λ _. let c = after-close-in s (p + 1) (omega arith) in ends-at p (afterClose s (p + 1)) _ refl refl refl refl h (le-refl p) (omega arith) (omega arith) (omega arith))
+      (λ _. let o = before-open-in s from p h in ends-at (beforeOpen s from p) (p + 1) _ refl refl refl refl (o .0) (o .1) (omega arith) (omega arith) (omega arith)))
 
   tilde-sound : Sound (tildeRule s st from p)
   unfolding tildeRule
@@ -120,7 +121,7 @@ module _ (s : List ℕ) (st : ParserState) (from p : ℕ) (h : from ≤ p) (i : 
       let l = scan-ge (labelStep s) (length s) x x (le-refl x) (scan-le (blanksStep s) (length s) (p + 1)) in
       let c = after-close-in s y (scan-le (labelStep s) (length s) x) in
       let o = before-open-in s from p h in
-      ends-at (beforeOpen s from p) (afterClose s y) _ refl refl refl (o .0) (o .1) (omega arith) (c .1)
+      ends-at (beforeOpen s from p) (afterClose s y) _ refl refl refl refl (o .0) (o .1) (omega arith) (c .1)
       (label-within s (beforeOpen s from p) (afterClose s y) p x y (o .1) (omega arith) l (c .0)))
 
   -- a token that begins with no blank is not empty where a blank ends it
@@ -128,7 +129,7 @@ module _ (s : List ℕ) (st : ParserState) (from p : ℕ) (h : from ≤ p) (i : 
   unfolding mathRule
   math-sound n =
       by-test Sound (blankAt s p)
-      (λ t. record { same-end = refl; starts = h; past-run = le-refl p; within = omega arith; on = inr refl; full = λ _. inl (past-start s from p h n t); waits = tt })
+      (λ t. record { same-reading = refl; same-end = refl; starts = h; past-run = le-refl p; within = omega arith; on = inr refl; full = λ _. inl (past-start s from p h n t); waits = tt })
       (λ _. omega arith)
 
   html-sound : Sound (htmlRule s st p)
@@ -137,11 +138,11 @@ module _ (s : List ℕ) (st : ParserState) (from p : ℕ) (h : from ≤ p) (i : 
       by-test Sound (st .html)
       (λ _.
       by-test Sound (wordAt s p closeHtml)
-      (λ t. let w = word-within s closeHtml p (omega arith) t in ends-at p (p + 7) _ refl refl refl h (le-refl p) (omega arith) w (omega arith))
+      (λ t. let w = word-within s closeHtml p (omega arith) t in ends-at p (p + 7) _ refl refl refl refl h (le-refl p) (omega arith) w (omega arith))
       (λ _. omega arith))
       (λ _.
       by-test Sound (wordAt s p openHtml)
-      (λ t. let w = word-within s openHtml p (omega arith) t in ends-at p (p + 6) _ refl refl refl h (le-refl p) (omega arith) w (omega arith))
+      (λ t. let w = word-within s openHtml p (omega arith) t in ends-at p (p + 6) _ refl refl refl refl h (le-refl p) (omega arith) w (omega arith))
       (λ _. omega arith))
 
   bracket-sound : Sound (bracketRule s st p)
@@ -149,29 +150,29 @@ module _ (s : List ℕ) (st : ParserState) (from p : ℕ) (h : from ≤ p) (i : 
   bracket-sound =
       by-test Sound (doubledAt s p lbracket) (λ t. omega (arith, doubled-within s p lbracket t)) (λ _.
       by-place Sound (tagEnd s (p + 1))
-      (λ q t. let w = tag-in s (p + 1) q (omega arith) t in ends-at p (q + 1) _ refl refl refl h (le-refl p) (omega arith) (omega arith) (omega arith))
+      (λ q t. let w = tag-in s (p + 1) q (omega arith) t in ends-at p (q + 1) _ refl refl refl refl h (le-refl p) (omega arith) (omega arith) (omega arith))
       (λ _. omega arith))
 
   newline-sound : Sound (newlineRule s st from p)
   unfolding newlineRule
   newline-sound =
       by-test Sound (afterLf s (p - from) p)
-      (λ t. let k = lf-past s (p - from) p t in record { same-end = refl; starts = h; past-run = omega arith; within = omega arith; on = inl (omega arith); full = λ n. absurd (differ cc); waits = omega arith })
+      (λ t. let k = lf-past s (p - from) p t in record { same-reading = refl; same-end = refl; starts = h; past-run = omega arith; within = omega arith; on = inl (omega arith); full = λ n. absurd (differ cc); waits = omega arith })
       (λ _. omega arith)
 
   -- a step that comes to the noted subscript end
   noted-sound : (q : ℕ) → p < q → q ≤ length s → Noted st p Sound q
-  noted-sound q j k _ = record { same-end = refl; starts = omega arith; past-run = le-refl q; within = k; on = inl (omega arith); full = λ n. absurd (differ cc); waits = omega arith }
+  noted-sound q j k _ = record { same-reading = refl; same-end = refl; starts = omega arith; past-run = le-refl q; within = k; on = inl (omega arith); full = λ n. absurd (differ cc); waits = omega arith }
 
   module _ (rd : Reading) where
     under-sound : Sound (underRule rd s st p)
     unfolding underRule openUnder
     under-sound =
         by-test Sound (doubledAt s p under) (λ t. omega (arith, doubled-within s p under t)) (λ _.
-        by-test Sound (eqb p (st .«end_italic»)) (λ _. ends-at p (p + 1) _ refl refl refl h (le-refl p) (omega arith) (omega arith) (omega arith)) (λ _.
+        by-test Sound (eqb p (st .«end_italic»)) (λ _. ends-at p (p + 1) _ refl refl refl refl h (le-refl p) (omega arith) (omega arith) (omega arith)) (λ _.
         by-test Sound (opensItalic s st p)
-        (λ _. by-place Sound (italicEnd rd s (p + 1)) (λ q t. ends-at p (p + 1) _ refl refl refl h (le-refl p) (omega arith) (omega arith) (omega arith)) (λ _. omega arith))
-        (λ _. by-place Sound (subscriptEnd rd s (p + 1)) (λ q t. ends-at p (p + 1) _ refl refl refl h (le-refl p) (omega arith) (omega arith) (omega arith)) (λ _. omega arith))))
+        (λ _. by-place Sound (italicEnd rd s (p + 1)) (λ q t. ends-at p (p + 1) _ refl refl refl refl h (le-refl p) (omega arith) (omega arith) (omega arith)) (λ _. omega arith))
+        (λ _. by-place Sound (subscriptEnd rd s (p + 1)) (λ q t. ends-at p (p + 1) _ refl refl refl refl h (le-refl p) (omega arith) (omega arith) (omega arith)) (λ _. omega arith))))
 
     plain-sound : Sound (plainRule rd s st from p)
     unfolding plainRule
@@ -206,5 +207,5 @@ pub pass-after :
     After s st from (pass rd s st from .end) (pass rd s st from .after)
 pass-after rd s st from h n =
     pass-by rd s st from (Comes s st from) (Ended s st from) (λ p k l. act-sound s st from p (k .0) l rd n)
-    (λ p k l. record { same-end = refl; starts = h; past-run = le-refl (length s); within = le-refl (length s); on = inr refl; full = λ _. inr refl; waits = tt })
+    (λ p k l. record { same-reading = refl; same-end = refl; starts = h; past-run = le-refl (length s); within = le-refl (length s); on = inr refl; full = λ _. inr refl; waits = tt })
     (le-refl from, h)

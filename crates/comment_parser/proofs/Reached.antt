@@ -9,6 +9,7 @@ use lib.ListN.{length}
 use Rattle.basics.specs.Member.{In}
 use Rattle.basics.proofs.Laws.{by-test}
 use Rattle.byte_rules.specs.Reading.{Reading}
+use Rattle.byte_rules.specs.declared.reading.Reading.{Reading as Name}
 use Rattle.comment_parser.specs.Item.{placedOf}
 use Rattle.comment_parser.specs.Bounds.{Within}
 use Rattle.comment_parser.specs.State.{fresh}
@@ -61,12 +62,12 @@ lies p r (over n l w) = tt
 pub seen-lies : (rd : Reading) (buf : List ℕ) (st : ParserState) (p : CommentItem × ParserState) → seen rd buf st ≡ some p → Reached st → Lies (p .0) (p .1)
 seen-lies rd buf st p h r = subst LiesIf (seen-answered rd buf st p h) (lies (passing rd buf st (seen-accepted rd buf st p h)) r (turn rd buf st))
 
-pub fresh-reached : (a b : ℕ) → Reached (fresh a b)
-fresh-reached a b = tt
+pub fresh-reached : (name : Name) (a b : ℕ) → Reached (fresh name a b)
+fresh-reached name a b = tt
 
 pub every-within : (rd : Reading) (buf : List ℕ) (start end : ℕ) (i : CommentItem) → In i (eventsOf rd buf start end) → Within 0 (length buf) (placedOf i)
 unfolding eventsOf
-every-within rd buf start end = every-event rd buf Reached (λ (i : CommentItem). Within 0 (length buf) (placedOf i)) on (fresh start end) (fresh-reached start end)
+every-within rd buf start end = every-event rd buf Reached (λ (i : CommentItem). Within 0 (length buf) (placedOf i)) on (fresh (rd .name) start end) (fresh-reached (rd .name) start end)
   where
     on : (st : ParserState) (p : CommentItem × ParserState) → seen rd buf st ≡ some p → Reached st → Within 0 (length buf) (placedOf (p .0)) × Reached (p .1)
     on st p h r =

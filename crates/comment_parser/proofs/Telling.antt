@@ -95,6 +95,6 @@ module _ {M : Type 0} (Stands : M → ParserState → Type 0) (Told : M → List
       tells (suc n) m st k i l = by-turn n (tells n) m st k l (reads-on rd buf st b (k .idle) (k .same-end)) (turned (passes m st k i))
 
       -- the events of a span, read from a fresh start
-      pub told : (m : M) (a : ℕ) → length buf ≤ longest → a ≤ b → b ≤ length buf → Stands m (fresh a b) → Told m (eventsOf rd buf a b)
+      pub told : (m : M) (a : ℕ) → length buf ≤ longest → a ≤ b → b ≤ length buf → Stands m (fresh (rd .name) a b) → Told m (eventsOf rd buf a b)
       unfolding eventsOf
-      told m a short h l i = tells (suc (left (fresh a b))) m (fresh a b) (record { idle = refl; accepted = record { short = short; inside = h; fits = l }; same-end = refl }) i (omega arith)
+      told m a short h l i = tells (suc (left (fresh (rd .name) a b))) m (fresh (rd .name) a b) (record { idle = refl; accepted = record { short = short; inside = h; fits = l }; same-end = refl }) i (omega arith)

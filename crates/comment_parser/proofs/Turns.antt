@@ -117,6 +117,7 @@ pub begun-at-end : {s : List ℕ} {st t : ParserState} {from q : ℕ} → After 
 begun-at-end {s} {from = from} {q} a w l = ⊎-elim (λ (f : from < q). absurd (omega arith)) (λ (z : q ≡ length s). omega (arith, a .starts)) (a .full w)
 
 pub record GoesOn (st t : ParserState) : Type 0 where
+  pub same-reading : t .reading ≡ st .reading
   pub same-end : t .end ≡ st .end
   pub within : t .pos ≤ t .end
   pub less : left t < left st
@@ -131,17 +132,17 @@ waits-le (Item i) = omega arith
 waits-le Nothing = omega arith
 
 goes : {rd : Reading} {s : List ℕ} {st : ParserState} {x : Next} → st .pos ≤ st .end → Passing rd s st → Turn rd s st x → GoesIf st x
-goes h p (waited w) = record { same-end = refl; within = h; less = omega (arith, ap waits w) }
+goes h p (waited w) = record { same-reading = refl; same-end = refl; within = h; less = omega (arith, ap waits w) }
 goes {rd} {s} {st} h p (ran n l) =
     let t = runRead rd s st .after in
     let a = p .after in
-    record { same-end = a .same-end; within = omega arith; less = omega (arith, waits-le (t .waiting)) }
+    record { same-reading = a .same-reading; same-end = a .same-end; within = omega arith; less = omega (arith, waits-le (t .waiting)) }
 goes {rd} {s} {st} h p (ended n l w) =
     let a = p .after in
     let k = past-waiting a w in
-    record { same-end = a .same-end; within = omega arith; less = omega arith }
+    record { same-reading = a .same-reading; same-end = a .same-end; within = omega arith; less = omega arith }
 goes h p (over n l w) = tt
 
--- an event keeps the end, moves on, and leaves less to come
+-- an event keeps the reading and the end, moves on, and leaves less to come
 pub answered-on : (rd : Reading) (buf : List ℕ) (st : ParserState) → Accepted buf st → (i : CommentItem) (t : ParserState) → answered rd buf st ≡ Event t i → GoesOn st t
 answered-on rd buf st a i t e = subst (GoesIf st) e (goes (a .inside) (passing rd buf st a) (turn rd buf st))

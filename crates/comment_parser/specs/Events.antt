@@ -34,4 +34,4 @@ module _ (rd : Reading) (buf : List ℕ) where
 
   -- the events of a span, read from a fresh start
   unfoldable pub eventsOf : ℕ → ℕ → List CommentItem
-  eventsOf a b = eventsFrom (fresh a b)
+  eventsOf a b = eventsFrom (fresh (rd .name) a b)

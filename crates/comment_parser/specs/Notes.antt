@@ -5,7 +5,7 @@ use mathlib.Core.List.{List}
 use mathlib.Core.Option.{some}
 use lib.ListN.{length, take}
 use Rattle.records.specs.Answer.{Answer, stateRefusal}
-use Rattle.byte_rules.specs.Reading.{rust}
+use Rattle.byte_rules.specs.Reading.{Reading, named}
 use Rattle.scans.specs.Scan.{scan}
 use Rattle.scans.specs.Notes.{Holds}
 use Rattle.scans.specs.declared.Note.{Note}
@@ -40,12 +40,12 @@ pub record Refuses (st : ParserState) (note : Note) (a : Answer) (r : NextNoted)
   pub is : stepAnswer (r .next) ≡ refusedAs st a
   pub same : r .note ≡ note
 
--- what `next_noted` answers: a state is refused whatever the note is, and else read by a note that holds
+-- what `next_noted` answers: a state is refused whatever the note is, and else read, in the reading that it names, by a note that holds
 pub record NextBy (buf : List ℕ) (st : ParserState) (note : Note) (r : NextNoted) : Type 0 where
   pub refuses : (a : Answer) → stateRefusal (length buf) (st .pos) (st .end) ≡ some a → Refuses st note a r
-  pub reads : Holds (take (st .end) buf) note → Answers (take (st .end) buf) (nextOf rust buf st) r
+  pub reads : Holds (take (st .end) buf) note → Answers (take (st .end) buf) (nextOf (named (st .reading)) buf st) r
 
--- a run that is at p may go on at r
+-- a run that is at p may go on at r, in any reading
 pub record Skipped (s : List ℕ) (st : ParserState) (p r : ℕ) : Type 0 where
-  pub over : (from : ℕ) → scan (passStep rust s st from) (length s) p ≡ scan (passStep rust s st from) (length s) r
+  pub over : (rd : Reading) (from : ℕ) → scan (passStep rd s st from) (length s) p ≡ scan (passStep rd s st from) (length s) r
   pub onward : (k : ℕ) → k ≤ p → k ≤ length s → k ≤ r

@@ -4,13 +4,14 @@ mod pass;
 mod rules;
 
 use basics::Span;
+use byte_rules::Reading;
 use pass::read_on;
 use records::Checked;
 use records::Refusal;
 use records::check_state;
 use scans::Note;
 ghost use mathlib.Core.Path.{_≡_};
-ghost use Rattle.byte_rules.specs.Reading.{rust};
+ghost use Rattle.byte_rules.specs.Reading.{named};
 ghost use Rattle.comment_parser.specs.Item.{point, spread, placedOf};
 ghost use Rattle.comment_parser.specs.State.{moved, inMath, inHtml, italicTo, subscriptTo, fresh};
 ghost use Rattle.comment_parser.specs.Next.{stepAnswer, give, nextOf};
@@ -124,8 +125,10 @@ pub enum Waiting {
     Item(CommentItem),
 }
 
-// Where a parser stands: the end it reads to, its position, its modes, the event that waits, and the noted ends of an italic and a subscript.
+// Where a parser stands: the reading that it goes by, the end it reads to, its position, its modes, the event that waits, and the noted ends of an italic
+// and a subscript.
 pub struct ParserState {
+    pub reading: Reading,
     pub end: usize,
     pub pos: usize,
     pub math: bool,
@@ -177,11 +180,12 @@ impl ParserState {
     // No italic end is noted: the largest number, which is no place of a buffer.
     pub const NO_ITALIC: usize = 18446744073709551615;
 
-    // The state of a parser that has yet to read the places from start to end.
-    pub fn new(start: usize, end: usize) -> Self
-        ensures { λ r. ⌜ r ≡ fresh start end ⌝ }
+    // The state of a parser that has yet to read the places from start to end, in the reading that is named.
+    pub fn new(reading: Reading, start: usize, end: usize) -> Self
+        ensures { λ r. ⌜ r ≡ fresh reading start end ⌝ }
     {
         Self {
+            reading,
             end,
             pos: start,
             math: false,
@@ -196,7 +200,9 @@ impl ParserState {
     pub(crate) fn moved(self, pos: usize, waiting: Waiting) -> Self
         ensures { λ r. ⌜ r ≡ moved self pos waiting ⌝ }
     {
+        let reading = self.reading;
         Self {
+            reading,
             end: self.end,
             pos,
             math: self.math,
@@ -261,7 +267,7 @@ impl ParserState {
     // The next event, or the end. Refused are a buffer that is too long (1), and a state whose position is past its end or
     // whose end is past the buffer's (3), with the state as given.
     pub fn next(self, buf: &[u8]) -> Next
-        ensures { λ r. ⌜ stepAnswer r ≡ nextOf rust (now (buf .entry)) self ⌝ }
+        ensures { λ r. ⌜ stepAnswer r ≡ nextOf (named (self .reading)) (now (buf .entry)) self ⌝ }
     {
         let noted = self.next_noted(buf, Note::nothing());
         noted.next

@@ -16,7 +16,7 @@ use scans::plain::plain_end;
 ghost use mathlib.Core.Path.{_≡_};
 ghost use Prim.Native.Nat.{_≤_};
 ghost use lib.ListN.{length};
-ghost use Rattle.byte_rules.specs.Reading.{rust};
+ghost use Rattle.byte_rules.specs.Reading.{named};
 ghost use Rattle.scans.specs.Notes.{Holds};
 ghost use Rattle.comment_parser.specs.Pass.{pass, runStart, runItem};
 ghost use Rattle.comment_parser.specs.Next.{readOn};
@@ -42,7 +42,7 @@ pub(crate) fn skip(text: &[u8], st: ParserState, p: usize) -> usize
 // The run from `from`, to what ends it.
 pub(crate) fn pass(text: &[u8], st: ParserState, from: usize, note: Note) -> RunNoted
     requires { ⌜ from ≤ length (now text) ⌝ }
-    ensures { λ r. ⌜ (Holds (now (text .entry)) note → Ran (now (text .entry)) (pass rust (now (text .entry)) st from) r) ⌝ }
+    ensures { λ r. ⌜ (Holds (now (text .entry)) note → Ran (now (text .entry)) (pass (named (st .reading)) (now (text .entry)) st from) r) ⌝ }
 {
     let mut p = from;
     let mut n = note;
@@ -97,7 +97,7 @@ pub(crate) fn run_item(st: ParserState, start: usize, end: usize) -> CommentItem
 // The run, if it is not empty, and then what ended it.
 pub(crate) fn read_on(text: &[u8], st: ParserState, note: Note) -> NextNoted
     requires { ⌜ st .pos ≤ length (now text) ⌝ }
-    ensures { λ r. ⌜ (Holds (now (text .entry)) note → Read (now (text .entry)) (readOn rust (now (text .entry)) st) r) ⌝ }
+    ensures { λ r. ⌜ (Holds (now (text .entry)) note → Read (now (text .entry)) (readOn (named (st .reading)) (now (text .entry)) st) r) ⌝ }
 {
     let from = run_start(text, st);
     let noted = pass(text, st, from, note);

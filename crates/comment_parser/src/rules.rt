@@ -23,7 +23,7 @@ ghost use mathlib.Core.Path.{_≡_};
 ghost use Prim.Native.Nat.{_-_, _≤_, _<_};
 ghost use mathlib.Core.Bool.{true};
 ghost use lib.ListN.{length};
-ghost use Rattle.byte_rules.specs.Reading.{rust};
+ghost use Rattle.byte_rules.specs.Reading.{named};
 ghost use Rattle.look.specs.Look.{byteAt};
 ghost use Rattle.scans.specs.Marks.{lbracket};
 ghost use Rattle.scans.specs.Notes.{Holds};
@@ -244,10 +244,11 @@ pub(crate) fn opens_italic(text: &[u8], st: ParserState, p: usize) -> bool
 // An underscore that opens an italic or a subscript ends the run.
 pub(crate) fn open_under(text: &[u8], st: ParserState, p: usize) -> Act
     requires { ⌜ p < length (now text) ⌝ }
-    ensures { λ r. ⌜ r ≡ openUnder rust (now (text .entry)) st p ⌝ }
+    ensures { λ r. ⌜ r ≡ openUnder (named (st .reading)) (now (text .entry)) st p ⌝ }
 {
+    let reading = st.reading;
     if opens_italic(text, st, p) {
-        match italic_end(text, p + 1) {
+        match italic_end(reading, text, p + 1) {
             Place::At(q) => {
                 let item = Waiting::Item(CommentItem::StartItalic(p));
                 Act::Ends(p, st.italic_to(q).moved(p + 1, item))
@@ -255,7 +256,7 @@ pub(crate) fn open_under(text: &[u8], st: ParserState, p: usize) -> Act
             Place::Nowhere => Act::One,
         }
     } else {
-        match subscript_end(text, p + 1) {
+        match subscript_end(reading, text, p + 1) {
             Place::At(q) => {
                 let item = Waiting::Item(CommentItem::StartSubscript(p));
                 Act::Ends(p, st.subscript_to(q).moved(p + 1, item))
@@ -268,7 +269,7 @@ pub(crate) fn open_under(text: &[u8], st: ParserState, p: usize) -> Act
 // A `_`: doubled, it steps two; at the noted italic end it ends the italic; else it may open one, or a subscript.
 pub(crate) fn under_rule(text: &[u8], st: ParserState, p: usize) -> Act
     requires { ⌜ p < length (now text) ⌝ }
-    ensures { λ r. ⌜ r ≡ underRule rust (now (text .entry)) st p ⌝ }
+    ensures { λ r. ⌜ r ≡ underRule (named (st .reading)) (now (text .entry)) st p ⌝ }
 {
     if doubled_at(text, p, b'_') {
         return Act::Two;
@@ -282,7 +283,7 @@ pub(crate) fn under_rule(text: &[u8], st: ParserState, p: usize) -> Act
 // Outside math and HTML: line breaks, italics and subscripts.
 pub(crate) fn plain_rule(text: &[u8], st: ParserState, from: usize, p: usize) -> Act
     requires { ⌜ (from ≤ p) × (p < length (now text)) ⌝ }
-    ensures { λ r. ⌜ r ≡ plainRule rust (now (text .entry)) st from p ⌝ }
+    ensures { λ r. ⌜ r ≡ plainRule (named (st .reading)) (now (text .entry)) st from p ⌝ }
 {
     if byte_at(text, p, b'\n') {
         return newline_rule(text, st, from, p);
@@ -296,7 +297,7 @@ pub(crate) fn plain_rule(text: &[u8], st: ParserState, from: usize, p: usize) ->
 // Outside math.
 pub(crate) fn text_rule(text: &[u8], st: ParserState, from: usize, p: usize, note: Note) -> Acted
     requires { ⌜ (from ≤ p) × (p < length (now text)) ⌝ }
-    ensures { λ r. ⌜ (Holds (now (text .entry)) note → Acts (now (text .entry)) (textRule rust (now (text .entry)) st from p) r) ⌝ }
+    ensures { λ r. ⌜ (Holds (now (text .entry)) note → Acts (now (text .entry)) (textRule (named (st .reading)) (now (text .entry)) st from p) r) ⌝ }
 {
     if byte_at(text, p, b'<') {
         return Acted {
@@ -326,7 +327,7 @@ pub(crate) fn text_rule(text: &[u8], st: ParserState, from: usize, p: usize, not
 // The first rule that applies at p.
 pub(crate) fn first_rule(text: &[u8], st: ParserState, from: usize, p: usize, note: Note) -> Acted
     requires { ⌜ (from ≤ p) × (p < length (now text)) ⌝ }
-    ensures { λ r. ⌜ (Holds (now (text .entry)) note → Acts (now (text .entry)) (firstRule rust (now (text .entry)) st from p) r) ⌝ }
+    ensures { λ r. ⌜ (Holds (now (text .entry)) note → Acts (now (text .entry)) (firstRule (named (st .reading)) (now (text .entry)) st from p) r) ⌝ }
 {
     if byte_at(text, p, b'`') {
         return Acted {
@@ -358,7 +359,7 @@ pub(crate) fn step_to(st: ParserState, q: usize, act: Act) -> Act
 // What happens at p, in the run that began at `from`.
 pub(crate) fn pass_act(text: &[u8], st: ParserState, from: usize, p: usize, note: Note) -> Acted
     requires { ⌜ (from ≤ p) × (p < length (now text)) ⌝ }
-    ensures { λ r. ⌜ (Holds (now (text .entry)) note → Acts (now (text .entry)) (passAct rust (now (text .entry)) st from p) r) ⌝ }
+    ensures { λ r. ⌜ (Holds (now (text .entry)) note → Acts (now (text .entry)) (passAct (named (st .reading)) (now (text .entry)) st from p) r) ⌝ }
 {
     let first = first_rule(text, st, from, p, note);
     let act = first.act;

@@ -9,7 +9,8 @@ use mathlib.Core.Option.{Option, none, some}
 use lib.Dec.{ltb}
 use lib.ListN.{length}
 use Rattle.basics.proofs.Laws.{differ}
-use Rattle.byte_rules.specs.Reading.{rust}
+use Rattle.byte_rules.specs.Reading.{Reading}
+use Rattle.byte_rules.specs.declared.reading.Reading.{Reading as Name}
 use Rattle.records.specs.Answer.{Answer, given, unless, checkedAnswer, longest, tooLong, badSpan, badState, spanRefusal, stateRefusal}
 use Rattle.records.specs.declared.Checked.{Checked}
 use Rattle.records.specs.declared.Checked.the-variants as checked
@@ -74,6 +75,7 @@ still false true x st n h = (refl, refl)
 still false false x st n h = absurd (differ cc)
 
 -- the view of a span that is refused gives no event, and stays as it is
-pub refused-view : (buf : List ℕ) (a b : ℕ) (x : Answer) → spanRefusal (length buf) a b ≡ some x → (nextOf rust buf (fresh a b) .event ≡ none) × (nextOf rust buf (fresh a b) .state ≡ fresh a b)
+pub refused-view : (rd : Reading) (name : Name) (buf : List ℕ) (a b : ℕ) (x : Answer) → spanRefusal (length buf) a b ≡ some x
+    → (nextOf rd buf (fresh name a b) .event ≡ none) × (nextOf rd buf (fresh name a b) .state ≡ fresh name a b)
 unfolding spanRefusal stateRefusal nextOf
-refused-view buf a b x h = still (ltb longest (length buf)) (ltb b a || ltb (length buf) b) x (fresh a b) (stepAnswer (answered rust buf (fresh a b))) h
+refused-view rd name buf a b x h = still (ltb longest (length buf)) (ltb b a || ltb (length buf) b) x (fresh name a b) (stepAnswer (answered rd buf (fresh name a b))) h

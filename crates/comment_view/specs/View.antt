@@ -3,6 +3,7 @@ use Prim.Native.Nat.{ℕ}
 use mathlib.Core.List.{List, []}
 use lib.ListN.{length}
 use denote.Ref.{RefT}
+use Rattle.byte_rules.specs.declared.reading.Reading.{Reading as Name}
 use Rattle.records.specs.Answer.{Answer, given, unless, refusalAnswer, spanRefusal}
 use Rattle.records.specs.declared.Checked.{Checked}
 use Rattle.records.specs.declared.Checked.the-variants as checked
@@ -28,6 +29,6 @@ openedAnswer (checked.Refused r) = refusalAnswer r
 abbrev pub openAnswer : List ℕ → ℕ → ℕ → Answer
 openAnswer buf start end = unless (spanRefusal (length buf) start end) (λ a. a) (given [])
 
--- a view of the places from a to b of a buffer, from a fresh start
-abbrev pub viewOf : RefT (List ℕ) → ℕ → ℕ → View
-viewOf buf a b = record { buf = buf; state = fresh a b }
+-- a view of the places from a to b of a buffer, from a fresh start in the reading of that name
+abbrev pub viewOf : Name → RefT (List ℕ) → ℕ → ℕ → View
+viewOf name buf a b = record { buf = buf; state = fresh name a b }

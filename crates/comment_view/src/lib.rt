@@ -2,6 +2,7 @@
 mod listed;
 mod unescaping;
 
+use byte_rules::Reading;
 use comment_parser::CommentItem;
 use comment_parser::Next;
 use comment_parser::ParserState;
@@ -12,7 +13,7 @@ use records::check_span;
 pub use unescaping::Form;
 ghost use mathlib.Core.Path.{_≡_};
 ghost use denote.Ref.{now};
-ghost use Rattle.byte_rules.specs.Reading.{rust};
+ghost use Rattle.byte_rules.specs.Reading.{named};
 ghost use Rattle.comment_parser.specs.Next.{nextOf};
 ghost use Rattle.comment_view.specs.View.{gives, openedAnswer, openAnswer, viewOf};
 
@@ -31,7 +32,7 @@ struct Stepped {
 
 // The parser's `next`, its answer parted from the state.
 fn read_step(state: ParserState, buf: &[u8]) -> Stepped
-    ensures { λ r. ⌜ gives (r .next) (r .state) ≡ nextOf rust (now (buf .entry)) state ⌝ }
+    ensures { λ r. ⌜ gives (r .next) (r .state) ≡ nextOf (named (state .reading)) (now (buf .entry)) state ⌝ }
 {
     let next = state.next(buf);
     match next {
@@ -52,7 +53,7 @@ fn read_step(state: ParserState, buf: &[u8]) -> Stepped
 
 // The next event, or the end. The state in the caller's record moves on; after a refusal (1 or 3) it is as it was.
 pub fn advance(st: &mut ParserState, buf: &[u8]) -> NextItem
-    ensures { λ r. ⌜ gives r (now (st .exit)) ≡ nextOf rust (now (buf .entry)) (now (st .entry)) ⌝ }
+    ensures { λ r. ⌜ gives r (now (st .exit)) ≡ nextOf (named (now (st .entry) .reading)) (now (buf .entry)) (now (st .entry)) ⌝ }
 {
     let n = read_step(*st, buf);
     *st = n.state;
@@ -72,13 +73,13 @@ pub struct Opened<'a> {
 }
 
 impl<'a> View<'a> {
-    // A view of a span. A buffer that is too long (1) and a span that is none of it (2) are refused; the view is made all the same, gives no event
+    // A view of a span, in the reading that is named. A buffer that is too long (1) and a span that is none of it (2) are refused; the view is made all the same, gives no event
     // and stays as it is (`refused-view` in proofs/Answers.antt).
-    pub fn open(buf: &'a [u8], start: usize, end: usize) -> Opened<'a>
-        ensures { λ r. ⌜ (openedAnswer (r .answer) ≡ openAnswer (now (buf .entry)) start end) × (r .view ≡ viewOf (buf .entry) start end) ⌝ }
+    pub fn open(reading: Reading, buf: &'a [u8], start: usize, end: usize) -> Opened<'a>
+        ensures { λ r. ⌜ (openedAnswer (r .answer) ≡ openAnswer (now (buf .entry)) start end) × (r .view ≡ viewOf reading (buf .entry) start end) ⌝ }
     {
         let answer = check_span(buf.len(), start, end);
-        let state = ParserState::new(start, end);
+        let state = ParserState::new(reading, start, end);
         Opened {
             answer,
             view: View { buf, state },
@@ -87,7 +88,7 @@ impl<'a> View<'a> {
 
     // The next event, or the end. The view moves on; after a refusal (1 or 3) it is as it was.
     pub fn next_item(&mut self) -> NextItem
-        ensures { λ r. ⌜ (gives r (now (self .exit) .state) ≡ nextOf rust (now (now (self .entry) .buf)) (now (self .entry) .state))
+        ensures { λ r. ⌜ (gives r (now (self .exit) .state) ≡ nextOf (named (now (self .entry) .state .reading)) (now (now (self .entry) .buf)) (now (self .entry) .state))
             × (now (self .exit) .buf ≡ now (self .entry) .buf) ⌝ }
     {
         let mut state = self.state;

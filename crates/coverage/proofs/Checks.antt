@@ -81,8 +81,8 @@ module _ {buf : List ℕ} {b : ℕ} where
 
 pub refused-has-none : (rd : Reading) (buf : List ℕ) (a b : ℕ) → (AcceptedSpan buf a b → ⊥) → eventsOf rd buf a b ≡ []
 unfolding eventsOf
-refused-has-none rd buf a b no-span = events-end rd buf (fresh a b) (go (seen rd buf (fresh a b)) refl)
+refused-has-none rd buf a b no-span = events-end rd buf (fresh (rd .name) a b) (go (seen rd buf (fresh (rd .name) a b)) refl)
   where
-    go : (o : Option (CommentItem × ParserState)) → seen rd buf (fresh a b) ≡ o → seen rd buf (fresh a b) ≡ none
+    go : (o : Option (CommentItem × ParserState)) → seen rd buf (fresh (rd .name) a b) ≡ o → seen rd buf (fresh (rd .name) a b) ≡ none
     go none e = e
-    go (some p) e = let k = seen-accepted rd buf (fresh a b) p e in absurd (no-span (record { short = k .short; ordered = k .inside; fits = k .fits }))
+    go (some p) e = let k = seen-accepted rd buf (fresh (rd .name) a b) p e in absurd (no-span (record { short = k .short; ordered = k .inside; fits = k .fits }))

@@ -56,9 +56,9 @@ module _ (rd : Reading) (buf : List ℕ) where
   reads zero st a l = absurd (omega arith)
   reads (suc n) st a l = by-turn n (reads n) st a l refl (turn rd buf st)
 
-  pub read-to-end : (a b : ℕ) → length buf ≤ longest → a ≤ b → b ≤ length buf → ReadToEnd rd buf (fresh a b) (eventsOf rd buf a b)
+  pub read-to-end : (a b : ℕ) → length buf ≤ longest → a ≤ b → b ≤ length buf → ReadToEnd rd buf (fresh (rd .name) a b) (eventsOf rd buf a b)
   unfolding eventsOf
-  read-to-end a b short h l = reads (suc (left (fresh a b))) (fresh a b) (record { short = short; inside = h; fits = l }) (omega arith)
+  read-to-end a b short h l = reads (suc (left (fresh (rd .name) a b))) (fresh (rd .name) a b) (record { short = short; inside = h; fits = l }) (omega arith)
 
 -- ---- accounted for
 
@@ -108,4 +108,4 @@ module _ (buf : List ℕ) (b : ℕ) where
         (accounted _ z (pass-after rd s st (runStart s st) (run-start-le s st h) (run-start-clean s st)) (begun cut st h) (pass-passed cut rd st (runStart s st)))
 
     pub accounts : (a : ℕ) → length buf ≤ longest → a ≤ b → Account buf b false a (eventsOf rd buf a b)
-    accounts a short h = telling.told Is Accounts rd buf b passes (fresh a b) a short h fits refl
+    accounts a short h = telling.told Is Accounts rd buf b passes (fresh (rd .name) a b) a short h fits refl

@@ -219,7 +219,7 @@ eventsAt p (c ∷ es) = elim (eqb (placedOf c .place) p) [ true ↦ suc (eventsA
 -- DEMAND 3, of a reading, a buffer, a span of it, and the events of that span.
 pub record Demand3 (rd : Reading) (buf : List ℕ) (a b : ℕ) (es : List CommentItem) : Type 0 where
   -- "the events of demand 2 read from a fresh start to the end"
-  pub read-to-end : ReadToEnd rd buf (fresh a b) es
+  pub read-to-end : ReadToEnd rd buf (fresh (rd .name) a b) es
   -- "each byte of the span lies in exactly one event's text, one event's mark, or one dropped blank"
   pub each-byte : (p : ℕ) → a ≤ p → p < b → ExactlyOne (Holds p) (pieces a b es)
   -- and no piece reaches out of the span

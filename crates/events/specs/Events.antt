@@ -5,7 +5,7 @@ use lib.ListN.{length}
 use Rattle.records.specs.Answer.{Answer, spanRefusal}
 use Rattle.records.specs.Records.{listAnswer, listLeft}
 use Rattle.lines.specs.Lines.{lined}
-use Rattle.byte_rules.specs.Reading.{rust}
+use Rattle.byte_rules.specs.Reading.{Reading}
 use Rattle.comment_parser.specs.Item.{placedOf}
 use Rattle.comment_parser.specs.Events.{eventsFrom, eventsOf}
 use Rattle.comment_parser.specs.declared.Placed.{Placed}
@@ -24,20 +24,21 @@ placedWords p = p .kind ∷ p .place ∷ p .start ∷ p .end ∷ 0 ∷ []
 abbrev pub placedRecord : CommentItem → List ℕ
 placedRecord i = placedWords (placedOf i)
 
--- those of the events from a state on, and of a span's events
-abbrev pub placedFrom : List ℕ → ParserState → List (List ℕ)
-placedFrom buf st = map placedRecord (eventsFrom rust buf st)
+module _ (rd : Reading) (buf : List ℕ) where
+  -- those of the events from a state on, and of a span's events
+  abbrev pub placedFrom : ParserState → List (List ℕ)
+  placedFrom st = map placedRecord (eventsFrom rd buf st)
 
-abbrev pub placedRecords : List ℕ → ℕ → ℕ → List (List ℕ)
-placedRecords buf start end = map placedRecord (eventsOf rust buf start end)
+  abbrev pub placedRecords : ℕ → ℕ → List (List ℕ)
+  placedRecords start end = map placedRecord (eventsOf rd buf start end)
 
--- the records of a span's events, with their lines
-abbrev pub eventRecords : List ℕ → ℕ → ℕ → List (List ℕ)
-eventRecords buf start end = lined buf (placedRecords buf start end)
+  -- the records of a span's events, with their lines
+  abbrev pub eventRecords : ℕ → ℕ → List (List ℕ)
+  eventRecords start end = lined buf (placedRecords start end)
 
--- what a call that lists a span's events answers, and what it leaves in the room
-abbrev pub eventsAnswer : List ℕ → ℕ → ℕ → ℕ → Answer
-eventsAnswer buf start end room = listAnswer (spanRefusal (length buf) start end) eventWidth (eventRecords buf start end) room
+  -- what a call that lists a span's events answers, and what it leaves in the room
+  abbrev pub eventsAnswer : ℕ → ℕ → ℕ → Answer
+  eventsAnswer start end room = listAnswer (spanRefusal (length buf) start end) eventWidth (eventRecords start end) room
 
-abbrev pub eventsLeft : List ℕ → ℕ → ℕ → List ℕ → List ℕ
-eventsLeft buf start end room = listLeft (spanRefusal (length buf) start end) eventWidth (eventRecords buf start end) room
+  abbrev pub eventsLeft : ℕ → ℕ → List ℕ → List ℕ
+  eventsLeft start end room = listLeft (spanRefusal (length buf) start end) eventWidth (eventRecords start end) room

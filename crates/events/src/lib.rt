@@ -1,4 +1,5 @@
 // The events of a span as records in an area that the caller lends.
+use byte_rules::Reading;
 use comment_parser::CommentItem;
 use comment_parser::Next;
 use comment_parser::ParserState;
@@ -12,6 +13,7 @@ use scans::Note;
 ghost use mathlib.Core.Path.{_≡_};
 ghost use mathlib.Core.List.{[], _∷_};
 ghost use lib.ListN.{length};
+ghost use Rattle.byte_rules.specs.Reading.{named};
 ghost use Rattle.records.specs.Answer.{longest, filledAnswer};
 ghost use Rattle.records.specs.Records.{laid, wroteOf};
 ghost use Rattle.comment_parser.specs.Item.{placedOf};
@@ -34,16 +36,16 @@ fn lay_event(room: &mut [u32], item: CommentItem) -> Wrote
     )
 }
 
-// The event records of the span from `start` to `end` of `buf`, in `out`: the first that fit, and the full count. A buffer that is too
+// The event records of the span from `start` to `end` of `buf`, in the reading that is named, in `out`: the first that fit, and the full count. A buffer that is too
 // long (1) and a span that is none of it (2) are refused, and nothing is written.
-pub fn events(buf: &[u8], start: usize, end: usize, out: &mut [u32]) -> Filled
-    ensures answer { λ r. ⌜ filledAnswer r ≡ eventsAnswer (now (buf .entry)) start end (length (now (out .entry))) ⌝ }
-    ensures left { λ r. ⌜ now (out .exit) ≡ eventsLeft (now (buf .entry)) start end (now (out .entry)) ⌝ }
+pub fn events(reading: Reading, buf: &[u8], start: usize, end: usize, out: &mut [u32]) -> Filled
+    ensures answer { λ r. ⌜ filledAnswer r ≡ eventsAnswer (named reading) (now (buf .entry)) start end (length (now (out .entry))) ⌝ }
+    ensures left { λ r. ⌜ now (out .exit) ≡ eventsLeft (named reading) (now (buf .entry)) start end (now (out .entry)) ⌝ }
 {
     if let Checked::Refused(why) = check_span(buf.len(), start, end) {
         return Filled::Refused(why);
     }
-    let mut st = ParserState::new(start, end);
+    let mut st = ParserState::new(reading, start, end);
     let mut note = Note::nothing();
     let mut at: usize = 0;
     let mut n: usize = 0;

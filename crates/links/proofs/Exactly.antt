@@ -7,7 +7,6 @@ use mathlib.Core.Logic.{_⊎_, inl, inr}
 use lib.ListN.{length}
 use Rattle.basics.specs.Member.{In}
 use Rattle.basics.proofs.Laws.{both-none}
-use Rattle.byte_rules.specs.Reading.{rust}
 use Rattle.records.specs.Answer.{spanRefusal}
 use Rattle.name_table.specs.Table.{tableRefusal}
 use Rattle.name_table.specs.Search.{entryOf}
@@ -78,13 +77,13 @@ module _ (buf bytes ends : List ℕ) (a e k : ℕ) where
 
 pub listed-exactly : ListedExactly
 unfolding linksOf linksRefusal
-listed-exactly buf bytes ends start end good a e k = record {
+listed-exactly rd buf bytes ends start end good a e k = record {
   only-when = λ listed.
-      let f = from-links buf bytes ends a e k (eventsOf rust buf start end) listed in
+      let f = from-links buf bytes ends a e k (eventsOf rd buf start end) listed in
       let entry = entry-found bytes ends (nameOf buf a e) k (f .1) in
       record { tilde = f .0 .0; label = f .0 .1; entry = entry .0; named = entry .1 };
   whenever = λ linked.
       let table = both-none (spanRefusal (length buf) start end) (tableRefusal 1 bytes ends) good in
       let entry = entry-is bytes ends 1 (table .1) (nameOf buf a e) k (linked .entry) (linked .named) in
-      to-links buf bytes ends a e k entry (linked .tilde) (eventsOf rust buf start end) (linked .label);
+      to-links buf bytes ends a e k entry (linked .tilde) (eventsOf rd buf start end) (linked .label);
 }

@@ -8,7 +8,8 @@ use native.Mathlib.Omega.{arith}
 use lib.ListN.{length}
 use types.Run.{OneOf, miss}
 use denote.Enum.Declared.{tagOf}
-use Rattle.byte_rules.specs.Reading.{rust}
+use Rattle.byte_rules.specs.Reading.{Reading, named}
+use Rattle.byte_rules.specs.declared.reading.Reading.{Reading as Name}
 use Rattle.records.proofs.Laws.{Wide}
 use Rattle.unescape.specs.Unescape.{part}
 use Rattle.unescape.specs.declared.Escape.the-variants as escape
@@ -20,12 +21,12 @@ use Rattle.name_table.specs.declared.Entry.the-variants.{At, Nothing}
 use Rattle.name_table.specs.declared.Spelling.the-variants.{Escaped}
 use Rattle.name_table.proofs.Laws.{searched-good}
 use Rattle.comment_parser.specs.State.{fresh}
-use Rattle.comment_parser.specs.Events.{eventsFrom, eventsOf}
+use Rattle.comment_parser.specs.Events.{eventsFrom}
 use Rattle.comment_parser.specs.declared.CommentItem.{CommentItem}
 use Rattle.comment_parser.specs.declared.CommentItem.the-variants.{Text, LineBreak, StartMathMode, EndMathMode, MathToken, Label, Url, StartHtml, EndHtml, StartSubscript, EndSubscript, StartItalic, EndItalic, BibTag}
 use Rattle.comment_parser.specs.declared.ParserState.{ParserState}
 use Rattle.comment_parser.proofs.CommentItem.{the-type}
-use Rattle.comment_parser.proofs.Events.{events-on, events-end}
+use Rattle.comment_parser.proofs.Events.{events-on, events-end, events-start}
 use Rattle.comment_parser.proofs.Giving.{Giving}
 use Rattle.links.specs.Links.{linkWidth, nameOf, linkTo, labelLinks, itemLinks, linksFrom, linksOf}
 
@@ -85,22 +86,23 @@ module _ (buf bytes ends : List ℕ) where
   each-item P p link (EndItalic i) = p
   each-item P p link (BibTag s) = p
 
-  -- ---- along the events
+-- ---- along the events
 
+module _ (rd : Reading) (buf bytes ends : List ℕ) where
   -- the links from a state on
   abbrev pub linksOn : ParserState → List (List ℕ)
-  linksOn st = linksFrom buf bytes ends (eventsFrom rust buf st)
+  linksOn st = linksFrom buf bytes ends (eventsFrom rd buf st)
 
-  pub links-given : Giving linkWidth buf (itemLinks buf bytes ends) linksOn
+  pub links-given : Giving rd linkWidth buf (itemLinks buf bytes ends) linksOn
   unfolding linksFrom
   links-given = record {
-    wide = each-item (Wide linkWidth) tt link-wide;
-    one = each-item (λ ws. length ws ≤ 1) (omega arith) link-one;
-    on = λ st i t h. ap (linksFrom buf bytes ends) (events-on rust buf st i t h);
-    over = λ st h. ap (linksFrom buf bytes ends) (events-end rust buf st h);
+    wide = each-item buf bytes ends (Wide linkWidth) tt (link-wide buf bytes ends);
+    one = each-item buf bytes ends (λ ws. length ws ≤ 1) (omega arith) (link-one buf bytes ends);
+    on = λ st i t h. ap (linksFrom buf bytes ends) (events-on rd buf st i t h);
+    over = λ st h. ap (linksFrom buf bytes ends) (events-end rd buf st h);
   }
 
-  -- the links of a span are those from a fresh start on
-  pub links-start : (start end : ℕ) → linksOn (fresh start end) ≡ linksOf buf bytes ends start end
-  unfolding linksOf eventsOf
-  links-start start end = refl
+-- the links of a span are those from a fresh start on
+pub links-start : (name : Name) (buf bytes ends : List ℕ) (start end : ℕ) → linksOn (named name) buf bytes ends (fresh name start end) ≡ linksOf (named name) buf bytes ends start end
+unfolding linksOf
+links-start name buf bytes ends start end = ap (linksFrom buf bytes ends) (events-start name buf start end)

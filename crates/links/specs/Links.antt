@@ -4,7 +4,7 @@ use mathlib.Core.List.{List, [], _∷_, _++_}
 use mathlib.Core.Option.{Option}
 use lib.ListN.{length}
 use Rattle.basics.specs.Choice.{orElse}
-use Rattle.byte_rules.specs.Reading.{rust}
+use Rattle.byte_rules.specs.Reading.{Reading}
 use Rattle.records.specs.Answer.{Answer, spanRefusal}
 use Rattle.records.specs.Records.{listAnswer, listLeft}
 use Rattle.unescape.specs.Unescape.{isEscape, unescaped, part}
@@ -58,16 +58,17 @@ module _ (buf bytes ends : List ℕ) where
   linksFrom [] = []
   linksFrom (i ∷ is) = itemLinks i ++ linksFrom is
 
-  unfoldable pub linksOf : ℕ → ℕ → List (List ℕ)
-  linksOf start end = linksFrom (eventsOf rust buf start end)
-
   -- the lowest number: the buffer, the span, the table, which is table 1 since it is lent alone
   unfoldable pub linksRefusal : ℕ → ℕ → Option Answer
   linksRefusal start end = orElse (spanRefusal (length buf) start end) (tableRefusal 1 bytes ends)
 
+module _ (rd : Reading) (buf bytes ends : List ℕ) where
+  unfoldable pub linksOf : ℕ → ℕ → List (List ℕ)
+  linksOf start end = linksFrom buf bytes ends (eventsOf rd buf start end)
+
   -- what the call answers, and what it leaves in a room
   abbrev pub linksAnswer : ℕ → ℕ → ℕ → Answer
-  linksAnswer start end room = listAnswer (linksRefusal start end) linkWidth (linksOf start end) room
+  linksAnswer start end room = listAnswer (linksRefusal buf bytes ends start end) linkWidth (linksOf start end) room
 
   abbrev pub linksLeft : ℕ → ℕ → List ℕ → List ℕ
-  linksLeft start end room = listLeft (linksRefusal start end) linkWidth (linksOf start end) room
+  linksLeft start end room = listLeft (linksRefusal buf bytes ends start end) linkWidth (linksOf start end) room

@@ -1,4 +1,5 @@
 // The links of a comment: each label that a lent table has, with its entry there.
+use byte_rules::Reading;
 use comment_parser::CommentItem;
 use comment_parser::Next;
 use comment_parser::ParserState;
@@ -17,6 +18,7 @@ ghost use mathlib.Core.Path.{_≡_};
 ghost use mathlib.Core.Option.{none};
 ghost use Prim.Native.Nat.{_≤_};
 ghost use lib.ListN.{length};
+ghost use Rattle.byte_rules.specs.Reading.{named};
 ghost use Rattle.records.specs.Answer.{longest, filledAnswer};
 ghost use Rattle.records.specs.Records.{laid, wroteOf};
 ghost use Rattle.name_table.specs.Table.{tableRefusal};
@@ -52,12 +54,20 @@ fn lay_item(buf: &[u8], item: CommentItem, lb: &[u8], le: &[u32], room: &mut [u3
     }
 }
 
-// The links of the span from `start` to `end` of `buf` to the labels, whose bytes and ends are `lb` and `le`, in `out`: the first that fit, and
+// The links of the span from `start` to `end` of `buf`, in the reading that is named, to the labels, whose bytes and ends are `lb` and `le`, in `out`: the first that fit, and
 // the full count. A buffer that is too long (1), a span that is none of it (2) and a malformed table (4, as table 1, since it is lent
 // alone) are refused, and nothing is written.
-pub fn links(buf: &[u8], start: usize, end: usize, lb: &[u8], le: &[u32], out: &mut [u32]) -> Filled
-    ensures answer { λ r. ⌜ filledAnswer r ≡ linksAnswer (now (buf .entry)) (now (lb .entry)) (now (le .entry)) start end (length (now (out .entry))) ⌝ }
-    ensures left { λ r. ⌜ now (out .exit) ≡ linksLeft (now (buf .entry)) (now (lb .entry)) (now (le .entry)) start end (now (out .entry)) ⌝ }
+pub fn links(
+    reading: Reading,
+    buf: &[u8],
+    start: usize,
+    end: usize,
+    lb: &[u8],
+    le: &[u32],
+    out: &mut [u32],
+) -> Filled
+    ensures answer { λ r. ⌜ filledAnswer r ≡ linksAnswer (named reading) (now (buf .entry)) (now (lb .entry)) (now (le .entry)) start end (length (now (out .entry))) ⌝ }
+    ensures left { λ r. ⌜ now (out .exit) ≡ linksLeft (named reading) (now (buf .entry)) (now (lb .entry)) (now (le .entry)) start end (now (out .entry)) ⌝ }
 {
     if let Checked::Refused(why) = check_span(buf.len(), start, end) {
         return Filled::Refused(why);
@@ -65,7 +75,7 @@ pub fn links(buf: &[u8], start: usize, end: usize, lb: &[u8], le: &[u32], out: &
     if let Checked::Refused(why) = check_table(1, lb, le) {
         return Filled::Refused(why);
     }
-    let mut st = ParserState::new(start, end);
+    let mut st = ParserState::new(reading, start, end);
     let mut note = Note::nothing();
     let mut at: usize = 0;
     let mut n: usize = 0;

@@ -6,7 +6,8 @@ use mathlib.Core.List.{List, [], _++_}
 use mathlib.Core.Option.{none, some}
 use Prim.Native.Nat.{ℕ, _+_, _-_, _≤_}
 use native.Mathlib.Omega.{arith}
-use Rattle.byte_rules.specs.Reading.{rust}
+use Rattle.byte_rules.specs.Reading.{Reading}
+use Rattle.byte_rules.specs.declared.reading.Reading.{Reading as Name}
 use Rattle.comment_parser.specs.Events.{seen, eventsFrom}
 use Rattle.comment_parser.specs.declared.CommentItem.{CommentItem}
 use Rattle.comment_parser.specs.declared.ParserState.{ParserState}
@@ -20,30 +21,30 @@ use Rattle.comment_parser.specs.Bounds.{Within}
 use Rattle.comment_parser.specs.State.{fresh}
 use Rattle.listing.specs.Listing.{eventLine, linesOf}
 
-abbrev pub linesFrom : List ℕ → ParserState → List ℕ
-linesFrom comment st = linesOf comment (eventsFrom rust comment st)
+abbrev pub linesFrom : Reading → List ℕ → ParserState → List ℕ
+linesFrom rd comment st = linesOf comment (eventsFrom rd comment st)
 
-module _ (comment : List ℕ) (st : ParserState) where
-  pub lines-on : (i : CommentItem) (t : ParserState) → seen rust comment st ≡ some (i, t) → linesFrom comment st ≡ eventLine i (lineOf comment (placedOf i .place)) ++ linesFrom comment t
+module _ (rd : Reading) (comment : List ℕ) (st : ParserState) where
+  pub lines-on : (i : CommentItem) (t : ParserState) → seen rd comment st ≡ some (i, t) → linesFrom rd comment st ≡ eventLine i (lineOf comment (placedOf i .place)) ++ linesFrom rd comment t
   unfolding linesOf
-  lines-on i t e = rw (events-on rust comment st i t e)
+  lines-on i t e = rw (events-on rd comment st i t e)
 
-  pub lines-end : seen rust comment st ≡ none → linesFrom comment st ≡ []
+  pub lines-end : seen rd comment st ≡ none → linesFrom rd comment st ≡ []
   unfolding linesOf
-  lines-end e = rw (events-end rust comment st e)
+  lines-end e = rw (events-end rd comment st e)
 
 -- the line of a place that no event to come stands before
 pub record Carried (comment : List ℕ) (st : ParserState) (place line : ℕ) : Type 0 where
   pub is : line ≡ lineOf comment place
   pub before : place ≤ given st
 
-pub carried-starts : (comment : List ℕ) (end : ℕ) → Carried comment (fresh 0 end) 0 1
-carried-starts comment end = record { is = sym (line-start comment); before = omega arith }
+pub carried-starts : (name : Name) (comment : List ℕ) (end : ℕ) → Carried comment (fresh name 0 end) 0 1
+carried-starts name comment end = record { is = sym (line-start comment); before = omega arith }
 
-module _ (comment : List ℕ) (st : ParserState) (place line : ℕ) (c : Carried comment st place line) (reached : Reached st) (i : CommentItem) (t : ParserState) (e : seen rust comment st ≡ some (i, t))
+module _ (rd : Reading) (comment : List ℕ) (st : ParserState) (place line : ℕ) (c : Carried comment st place line) (reached : Reached st) (i : CommentItem) (t : ParserState) (e : seen rd comment st ≡ some (i, t))
     (to : ℕ) (is-place : to ≡ placedOf i .place) (more : ℕ) (between : more ≡ lineOf comment to - lineOf comment place) where
   in-order : Within (given st) (given t) (placedOf i)
-  in-order = seen-in-order rust comment st (i, t) e reached
+  in-order = seen-in-order rd comment st (i, t) e reached
 
   pub carried-number : line + more ≡ lineOf comment to
   carried-number = omega (arith, c .is, line-grows comment place to (omega (arith, c .before, in-order .above)))

@@ -2,7 +2,7 @@
 use Prim.Native.Nat.{ℕ}
 use mathlib.Core.List.{List, [], _∷_, _++_}
 use lib.ListN.{length}
-use Rattle.byte_rules.specs.Reading.{rust}
+use Rattle.byte_rules.specs.Reading.{Reading}
 use Rattle.byte_rules.specs.Text.{bytes}
 use Rattle.lines.specs.Lines.{lineOf}
 use Rattle.programs.specs.Lines.{line}
@@ -35,12 +35,12 @@ unfoldable pub linesOf : List ℕ → List CommentItem → List ℕ
 linesOf comment [] = []
 linesOf comment (i ∷ is) = eventLine i (lineOf comment (placedOf i .place)) ++ linesOf comment is
 
--- the lines of a whole comment's events
-abbrev pub eventLines : List ℕ → List ℕ
-eventLines comment = linesOf comment (eventsOf rust comment 0 (length comment))
+-- the lines of a whole comment's events, in a reading
+abbrev pub eventLines : Reading → List ℕ → List ℕ
+eventLines rd comment = linesOf comment (eventsOf rd comment 0 (length comment))
 
 abbrev pub header : List ℕ
 header = bytes "kind\tplace\tstart\tend\tline\n"
 
-unfoldable pub listing : List ℕ → List ℕ
-listing comment = header ++ eventLines comment
+unfoldable pub listing : Reading → List ℕ → List ℕ
+listing rd comment = header ++ eventLines rd comment

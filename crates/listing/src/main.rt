@@ -1,12 +1,17 @@
 // Reads a comment from standard input and lists its events on standard output, a line for each: kind, place, start, end and line, parted by tabs.
+// The argument `--strict` chooses the strict reading.
 mod line;
 
+use byte_rules::Reading;
 use comment_parser::Next;
 use comment_parser::ParserState;
 use line::put_line;
 use lines::lines_between;
+use libc::STDERR_FILENO;
+use programs::Asked;
 use programs::Input;
 use programs::Output;
+use programs::asked_for;
 use programs::read_input;
 use records::Checked;
 use records::check_input;
@@ -15,15 +20,16 @@ ghost use mathlib.Core.Path.{_≡_};
 ghost use mathlib.Core.Bool.{true};
 ghost use mathlib.Core.List.{[]};
 ghost use lib.ListN.{length};
+ghost use Rattle.byte_rules.specs.Reading.{named};
 ghost use Rattle.programs.specs.Output.{waiting, gathered, Gathers};
 ghost use Rattle.listing.specs.Listing.{eventLines, listing};
 
 // A line for each event, as it is read. Places never fall, so the number of the line is carried along. It stops where a write fails.
-fn put_events(output: Output, buffer: &mut [u8], comment: &[u8]) -> Output
-    ensures { λ r. ⌜ (r .good ≡ true → Gathers (eventLines (now (comment .entry))) output (now (buffer .entry)) r (now (buffer .exit))) ⌝ }
+fn put_events(reading: Reading, output: Output, buffer: &mut [u8], comment: &[u8]) -> Output
+    ensures { λ r. ⌜ (r .good ≡ true → Gathers (eventLines (named reading) (now (comment .entry))) output (now (buffer .entry)) r (now (buffer .exit))) ⌝ }
 {
     let mut written = output;
-    let mut st = ParserState::new(0, comment.len());
+    let mut st = ParserState::new(reading, 0, comment.len());
     let mut note = Note::nothing();
     let mut place: usize = 0;
     let mut line: usize = 1;
@@ -48,12 +54,12 @@ fn put_events(output: Output, buffer: &mut [u8], comment: &[u8]) -> Output
     }
 }
 
-// The listing of a comment.
-fn put_listing(buffer: &mut [u8], comment: &[u8]) -> Output
-    ensures { λ r. ⌜ (r .good ≡ true → waiting r (now (buffer .exit)) ≡ gathered (length (now (buffer .entry))) [] (listing (now (comment .entry)))) ⌝ }
+// The listing of a comment in a reading.
+fn put_listing(reading: Reading, buffer: &mut [u8], comment: &[u8]) -> Output
+    ensures { λ r. ⌜ (r .good ≡ true → waiting r (now (buffer .exit)) ≡ gathered (length (now (buffer .entry))) [] (listing (named reading) (now (comment .entry)))) ⌝ }
 {
     let head = Output::new().text(buffer, b"kind\tplace\tstart\tend\tline\n");
-    put_events(head, buffer, comment)
+    put_events(reading, head, buffer, comment)
 }
 
 // Writes what is left, and says on standard error if writing failed.
@@ -64,8 +70,15 @@ fn finish(output: Output, buffer: &[u8]) {
     os::fail(b"standard output");
 }
 
-// The room for the comment has as many bytes as a comment may have; a longer one is refused (8).
+// The room for the comment has as many bytes as a comment may have; a longer one is refused (8). That for the argument has one more than `--strict`, so a
+// longer one is told from it.
 fn main() {
+    let mut first = [0u8; 9];
+    let length = os::arg(1, &mut first);
+    let Asked::Read(reading) = asked_for(os::arg_count(), &first[..length]) else {
+        io::write_all(STDERR_FILENO, b"listing: takes no argument but --strict\n");
+        return;
+    };
     let mut room = io::large_buffer();
     let mut buffer = io::buffer();
     let Input::Bytes(n) = read_input(&mut room) else {
@@ -73,7 +86,7 @@ fn main() {
         return;
     };
     match check_input(n) {
-        Checked::Good => finish(put_listing(&mut buffer, &room[..n]), &buffer),
+        Checked::Good => finish(put_listing(reading, &mut buffer, &room[..n]), &buffer),
         Checked::Refused(why) => finish(Output::new().refused(&mut buffer, why), &buffer),
     }
 }

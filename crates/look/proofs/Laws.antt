@@ -12,8 +12,6 @@ use lib.ListN.{length, drop, getD, length-drop, drop-of-length-le}
 use lib.Seq.{drop-cons, getD-drop}
 use Rattle.basics.proofs.Laws.{both}
 use Rattle.byte_rules.specs.Classes.{isBlank, isCloser}
-use Rattle.byte_rules.specs.Reading.{barsNothing}
-use Rattle.byte_rules.proofs.Laws.{nothing-barred}
 use Rattle.look.specs.Look.{holdsAt, isByte, byteAt, blankAt, alphanumericAt, closerAt, doubledAt, wordAt}
 
 -- any test, of which the tests by place are instances
@@ -33,19 +31,6 @@ module _ (test : ℕ → Bool) (s : List ℕ) (i : ℕ) where
   pub holds-is : holdsAt test s i ≡ true → test (getD s i 0) ≡ true
   unfolding holdsAt
   holds-is h = both (ltb i (length s)) _ h .1
-
--- a test that no byte passes
-pub holds-never : (test : ℕ → Bool) (s : List ℕ) (i : ℕ) → ((c : ℕ) → test c ≡ false) → holdsAt test s i ≡ false
-unfolding holdsAt
-holds-never test s i never = go (ltb i (length s))
-  where
-    go : (b : Bool) → (b && test (getD s i 0)) ≡ false
-    go true = never (getD s i 0)
-    go false = refl
-
--- in the Rust's reading no byte bars
-pub nothing-at : (s : List ℕ) (i : ℕ) → holdsAt barsNothing s i ≡ false
-nothing-at s i = holds-never barsNothing s i nothing-barred
 
 module _ (s : List ℕ) (i : ℕ) where
   pub byte-past : (b : ℕ) → length s ≤ i → byteAt s i b ≡ false

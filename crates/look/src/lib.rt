@@ -1,6 +1,8 @@
 // What stands at a place of a text. Past its end no test holds.
+use byte_rules::Reading;
 ghost use mathlib.Core.Path.{_≡_};
-ghost use Rattle.look.specs.Look.{byteAt, blankAt, alphanumericAt, closerAt, italicOpenerAt, doubledAt, wordAt};
+ghost use Rattle.byte_rules.specs.Reading.{named};
+ghost use Rattle.look.specs.Look.{holdsAt, byteAt, blankAt, alphanumericAt, closerAt, italicOpenerAt, doubledAt, wordAt};
 
 pub fn byte_at(text: &[u8], i: usize, b: u8) -> bool
     ensures { λ r. ⌜ r ≡ byteAt (now (text .entry)) i b ⌝ }
@@ -43,6 +45,28 @@ pub fn italic_opener_at(text: &[u8], i: usize) -> bool
 {
     if i < text.len() {
         byte_rules::is_italic_opener(text[i])
+    } else {
+        false
+    }
+}
+
+// A byte that bars a subscript, in this reading.
+pub fn bars_subscript_at(reading: Reading, text: &[u8], i: usize) -> bool
+    ensures { λ r. ⌜ r ≡ holdsAt (named reading .barsSubscript) (now (text .entry)) i ⌝ }
+{
+    if i < text.len() {
+        reading.bars_subscript(text[i])
+    } else {
+        false
+    }
+}
+
+// A byte that bars an italic, in this reading.
+pub fn bars_italic_at(reading: Reading, text: &[u8], i: usize) -> bool
+    ensures { λ r. ⌜ r ≡ holdsAt (named reading .barsItalic) (now (text .entry)) i ⌝ }
+{
+    if i < text.len() {
+        reading.bars_italic(text[i])
     } else {
         false
     }

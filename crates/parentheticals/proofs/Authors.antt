@@ -43,7 +43,7 @@ module _ (bars : ℕ → Bool) (s : List ℕ) where
   past : (k i : ℕ) → length s ≤ i → authorWithin bars k s i ≡ none
   unfolding authorWithin
   past zero i h = refl
-  past (suc k) i h = rw (byte-past s i comma h, ← len-past s i bars h)
+  past (suc k) i h = rw (byte-past s i comma h, ← len-past bars s i h)
 
   same : (j k i : ℕ) → length s ≤ i + j → length s ≤ i + k → authorWithin bars j s i ≡ authorWithin bars k s i
   unfolding authorWithin

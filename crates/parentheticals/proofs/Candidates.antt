@@ -102,21 +102,21 @@ module _ (bars : ℕ → Bool) (s : List ℕ) (i : ℕ) where
   next-hit h f e = first-hit (matchAt bars s) (length s) i h f e
 
 -- bytes that open nothing are stepped over
-module _ (bars : ℕ → Bool) (s : List ℕ) where
-  pub passed-starts : (i : ℕ) → Passed bars s i i
-  passed-starts i = record { same = refl; onward = le-refl i }
+module _ (s : List ℕ) where
+  pub passed-starts : (i : ℕ) → Passed s i i
+  passed-starts i = record { same = λ bars. refl; onward = le-refl i }
 
-  pub passed-one : {i r : ℕ} → Passed bars s i r → r < length s → (getD s r 0 ≡ lparen → ⊥) → Passed bars s i (r + 1)
-  passed-one {i} {r} p h n = record { same = p .same ∙ next-miss bars s r h (no-opening bars s r h n); onward = omega (arith, p .onward) }
+  pub passed-one : {i r : ℕ} → Passed s i r → r < length s → (getD s r 0 ≡ lparen → ⊥) → Passed s i (r + 1)
+  passed-one {i} {r} p h n = record { same = λ bars. p .same bars ∙ next-miss bars s r h (no-opening bars s r h n); onward = omega (arith, p .onward) }
 
-  passed-some : (k : ℕ) {i r : ℕ} → Passed bars s i r → r + k ≤ length s → Lacks s r k lparen → Passed bars s i (r + k)
+  passed-some : (k : ℕ) {i r : ℕ} → Passed s i r → r + k ≤ length s → Lacks s r k lparen → Passed s i (r + k)
   passed-some zero {i} {r} p h l = let z : r + 0 ≡ r = omega arith in rw z p
   passed-some (suc k) {i} {r} p h l =
       let z : r + k + 1 ≡ r + suc k = omega arith in
       let before = passed-some k p (omega arith) (λ j a. l j (omega arith)) in
       rw z at (passed-one before (omega arith) (λ e. clash (l k (omega arith)) (eq-eqb (getD s (r + k) 0) lparen e)))
 
-  pub passed-eight : {i r : ℕ} → Passed bars s i r → Lacking s r lparen → Passed bars s i (r + 8)
+  pub passed-eight : {i r : ℕ} → Passed s i r → Lacking s r lparen → Passed s i (r + 8)
   passed-eight p l = passed-some 8 p (l .within) (l .none)
 
 module _ (w s : List ℕ) (i : ℕ) where

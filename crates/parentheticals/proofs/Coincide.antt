@@ -1,19 +1,22 @@
 -- Each answer is told by its number and values: two outcomes that a contract permits coincide.
 -- Assumes nothing.
 use Prim.Native.Nat.{ℕ}
-use mathlib.Core.Path.{_≡_, refl}
+use mathlib.Core.Path.{_≡_, refl, sym, _∙_}
 use mathlib.Core.Bool.{Bool, true, false, cond}
 use mathlib.Core.List.{List, [], _∷_}
+use mathlib.Core.Option.{Option, none, some}
 use lib.Dec.{eqb}
 use lib.ListN.{getD}
 use Rattle.basics.specs.declared.Span.{Span}
+use Rattle.byte_rules.specs.declared.reading.Reading.the-variants.{Rust}
 use Rattle.records.specs.Answer.{Answer}
 use Rattle.records.proofs.Answers.{coincide, readBack, refused-back}
 use Rattle.parentheticals.specs.Matching.{span}
-use Rattle.parentheticals.specs.Answers.{fresh, startedAnswer, stepAnswer, flaggedAnswer}
+use Rattle.parentheticals.specs.Answers.{fresh, startedAnswer, startedState, stepAnswer, flaggedAnswer}
 use Rattle.parentheticals.specs.declared.Parenthetical.{Parenthetical}
 use Rattle.parentheticals.specs.declared.Parenthetical.the-variants.{ContributedBy, RevisedBy, ProofShortenedBy}
 use Rattle.parentheticals.specs.declared.Parenthetical.the-variants.{ProofModificationDiscouraged, NewUsageDiscouraged}
+use Rattle.parentheticals.specs.declared.ParentheticalState.{ParentheticalState}
 use Rattle.parentheticals.specs.declared.Started.{Started}
 use Rattle.parentheticals.specs.declared.Started.the-variants as started
 use Rattle.parentheticals.specs.declared.NextParenthetical.{NextParenthetical}
@@ -23,16 +26,18 @@ use Rattle.parentheticals.specs.declared.Flagged.the-variants as flagged
 
 -- ---- the fresh state
 
-startedBack : List ℕ → Started
-startedBack values = started.Ready (fresh (getD values 0 0) (getD values 1 0))
+-- a refusal is told by its number and values, and a state is the state
+startedBack : Option ParentheticalState → List ℕ → Started
+startedBack none values = started.Ready (fresh Rust 0 0)
+startedBack (some st) values = started.Ready st
 
-started-back : (r : Started) → readBack startedBack started.Refused (startedAnswer r) ≡ r
+started-back : (r : Started) → readBack (startedBack (startedState r)) started.Refused (startedAnswer r) ≡ r
 unfolding startedBack
 started-back (started.Ready st) = refl
-started-back (started.Refused r) = refused-back startedBack started.Refused r
+started-back (started.Refused r) = refused-back (startedBack none) started.Refused r
 
-pub started-one : (a : Answer) (x y : Started) → startedAnswer x ≡ a → startedAnswer y ≡ a → x ≡ y
-started-one = coincide startedAnswer (readBack startedBack started.Refused) started-back
+pub started-one : (a : Answer) (s : Option ParentheticalState) (x y : Started) → (startedAnswer x ≡ a) × (startedState x ≡ s) → (startedAnswer y ≡ a) × (startedState y ≡ s) → x ≡ y
+started-one a s x y p q = sym (started-back x) ∙ rw (p .0, p .1, ← q .0, ← q .1) (started-back y)
 
 -- ---- a step
 

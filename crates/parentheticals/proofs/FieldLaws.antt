@@ -1,9 +1,9 @@
 -- The laws of the fields' matchers: one for each way that the code goes.
 -- Assumes nothing.
 use Prim.Native.Nat.{ℕ, suc, _+_, _-_, _<_, _≤_}
-use mathlib.Core.Path.{_≡_, refl}
+use mathlib.Core.Path.{_≡_}
 use mathlib.Core.List.{List, _∷_}
-use mathlib.Core.Bool.{Bool, true, false, _&&_}
+use mathlib.Core.Bool.{Bool, true, false, _&&_, not}
 use mathlib.Core.Option.{none, some}
 use native.Mathlib.Numerals.{add-one}
 use lib.Dec.{eqb}
@@ -11,9 +11,7 @@ use lib.ListN.{length, getD, drop, drop-of-length-le}
 use lib.Seq.{drop-cons}
 use borrow.Author.Tests.{eq-eqb, ne-eqb, lt-ltb, le-ltb}
 use Rattle.byte_rules.specs.Classes.{isCreditSpace, isDigit, isCapital, isSmall, isAuthorByte}
-use Rattle.byte_rules.specs.Reading.{barsNothing}
 use Rattle.byte_rules.specs.Utf8.{charLen}
-use Rattle.byte_rules.proofs.Laws.{nothing-barred}
 use Rattle.look.specs.Look.{byteAt}
 use Rattle.look.proofs.Laws.{holds-in, holds-past}
 use Rattle.scans.specs.Marks.{lparen}
@@ -146,25 +144,16 @@ module _ (s : List ℕ) (i : ℕ) where
       unfolding authorStart
       author-one h = rw (spaces, f, le-ltb (i + 1) e h)
 
--- in the Rust's reading every byte but `,` and `)` is an author's
-rust-byte : (c : ℕ) → authorByte barsNothing c ≡ isAuthorByte c
-unfolding authorByte
-rust-byte c = rw nothing-barred (go (isAuthorByte c))
-  where
-    go : (t : Bool) → (t && true) ≡ t
-    go true = refl
-    go false = refl
-
-module _ (s : List ℕ) (i : ℕ) where
-  pub len-past : (bars : ℕ → Bool) → length s ≤ i → 0 ≡ authorLen bars s i
+module _ (bars : ℕ → Bool) (s : List ℕ) (i : ℕ) where
+  pub len-past : length s ≤ i → 0 ≡ authorLen bars s i
   unfolding authorLen
-  len-past bars h = rw (holds-past (authorByte bars) s i h)
+  len-past h = rw (holds-past (authorByte bars) s i h)
 
   module _ (h : i < length s) where
-    pub len-char : isAuthorByte (getD s i 0) ≡ true → charLen s i ≡ authorLen barsNothing s i
-    unfolding authorLen
-    len-char e = rw (holds-in (authorByte barsNothing) s i h, rust-byte, e)
+    pub len-char : (isAuthorByte (getD s i 0) && not (bars (getD s i 0))) ≡ true → charLen s i ≡ authorLen bars s i
+    unfolding authorLen authorByte
+    len-char e = rw (holds-in (authorByte bars) s i h, e)
 
-    pub len-other : isAuthorByte (getD s i 0) ≡ false → 0 ≡ authorLen barsNothing s i
-    unfolding authorLen
-    len-other e = rw (holds-in (authorByte barsNothing) s i h, rust-byte, e)
+    pub len-other : (isAuthorByte (getD s i 0) && not (bars (getD s i 0))) ≡ false → 0 ≡ authorLen bars s i
+    unfolding authorLen authorByte
+    len-other e = rw (holds-in (authorByte bars) s i h, e)

@@ -9,7 +9,7 @@ use native.Mathlib.Omega.{arith}
 use native.Mathlib.Nat.{le-refl}
 use lib.ListN.{length, take}
 use Rattle.basics.specs.declared.Span.{Span}
-use Rattle.byte_rules.specs.Reading.{rust}
+use Rattle.byte_rules.specs.Reading.{Reading}
 use Rattle.records.specs.Answer.{longest}
 use Rattle.records.specs.Produced.{grow}
 use Rattle.records.proofs.ProducedLaws.{produced-step}
@@ -108,18 +108,18 @@ lies-words from to f h r =
     fields ProofModificationDiscouraged o = (zeros, zeros)
     fields NewUsageDiscouraged o = (zeros, zeros)
 
-abbrev pub recordsFrom : List ℕ → ℕ → List (List ℕ)
-recordsFrom s i = map recordOf (matchesFrom (rust .barsAuthor) s i)
+abbrev pub recordsFrom : (ℕ → Bool) → List ℕ → ℕ → List (List ℕ)
+recordsFrom bars s i = map recordOf (matchesFrom bars s i)
 
-module _ (s : List ℕ) (i : ℕ) where
-  pub records-end : nextFrom (rust .barsAuthor) s i ≡ none → recordsFrom s i ≡ []
-  records-end e = ap (map recordOf) (matches-end (rust .barsAuthor) s i e)
+module _ (bars : ℕ → Bool) (s : List ℕ) (i : ℕ) where
+  pub records-end : nextFrom bars s i ≡ none → recordsFrom bars s i ≡ []
+  records-end e = ap (map recordOf) (matches-end bars s i e)
 
-  pub records-more : (f : Found) → nextFrom (rust .barsAuthor) s i ≡ some f → recordsFrom s i ≡ recordOf f ∷ recordsFrom s (f .whole .end)
-  records-more f e = ap (map recordOf) (matches-more (rust .barsAuthor) s i f e)
+  pub records-more : (f : Found) → nextFrom bars s i ≡ some f → recordsFrom bars s i ≡ recordOf f ∷ recordsFrom bars s (f .whole .end)
+  records-more f e = ap (map recordOf) (matches-more bars s i f e)
 
 -- the invariant of the loop over the list: each one took a byte at least, and the records are laid so far
-pub record Going (buf : List ℕ) (start end : ℕ) (out₀ out : List ℕ) (from at n : ℕ) : Type 0 where
+pub record Going (rd : Reading) (buf : List ℕ) (start end : ℕ) (out₀ out : List ℕ) (from at n : ℕ) : Type 0 where
   pub within : from ≤ end
   pub few : n + (end - from) ≤ end
-  pub laying : Laying recordWidth (recordsOf rust buf start end) (recordsFrom (take end buf) from) out₀ out at n
+  pub laying : Laying recordWidth (recordsOf rd buf start end) (recordsFrom (rd .barsAuthor) (take end buf) from) out₀ out at n

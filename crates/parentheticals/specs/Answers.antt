@@ -5,6 +5,7 @@ use mathlib.Core.Bool.{Bool, true, false}
 use mathlib.Core.Option.{Option, none, some}
 use lib.ListN.{length, take}
 use Rattle.byte_rules.specs.Reading.{Reading}
+use Rattle.byte_rules.specs.declared.reading.Reading.{Reading as Name}
 use Rattle.records.specs.Answer.{Answer, given, unless, refusalAnswer, lengthRefusal, spanRefusal, stateRefusal}
 use Rattle.scans.specs.Marks.{lparen}
 use Rattle.parentheticals.specs.Matching.{proofModification, newUsage, nextFrom, standsIn}
@@ -21,8 +22,8 @@ use Rattle.parentheticals.specs.declared.Flagged.the-variants as flagged
 
 -- ---- the fresh state of a span
 
-abbrev pub fresh : ℕ → ℕ → ParentheticalState
-fresh start end = record { position = start; end = end }
+abbrev pub fresh : Name → ℕ → ℕ → ParentheticalState
+fresh name start end = record { reading = name; position = start; end = end }
 
 -- 0 with position and end; or 1, 2
 abbrev pub startedAnswer : Started → Answer
@@ -30,7 +31,15 @@ startedAnswer (started.Ready st) = given (st .position ∷ st .end ∷ [])
 startedAnswer (started.Refused r) = refusalAnswer r
 
 unfoldable pub startAnswer : List ℕ → ℕ → ℕ → Answer
-startAnswer buf start end = unless (spanRefusal (length buf) start end) (λ a. a) (startedAnswer (started.Ready (fresh start end)))
+startAnswer buf start end = unless (spanRefusal (length buf) start end) (λ a. a) (given (start ∷ end ∷ []))
+
+-- the state itself, in the reading of that name; none with a refusal
+abbrev pub startedState : Started → Option ParentheticalState
+startedState (started.Ready st) = some st
+startedState (started.Refused r) = none
+
+unfoldable pub startState : Name → List ℕ → ℕ → ℕ → Option ParentheticalState
+startState name buf start end = unless (spanRefusal (length buf) start end) (λ a. none) (some (fresh name start end))
 
 -- ---- the step from a state
 
@@ -48,7 +57,7 @@ stepOf (some f) = step.Next f
 -- the state after it: behind the parenthetical that was found, else as it was
 abbrev pub movedBy : ParentheticalState → Option Found → ParentheticalState
 movedBy st none = st
-movedBy st (some f) = record { position = f .whole .end; end = st .end }
+movedBy st (some f) = record { reading = st .reading; position = f .whole .end; end = st .end }
 
 module _ (r : Reading) (buf : List ℕ) (st : ParentheticalState) where
   abbrev pub refused : Option Answer

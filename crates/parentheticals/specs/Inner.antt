@@ -35,9 +35,9 @@ abbrev pub foundOf : Search → Option Found
 foundOf (Hit f) = some f
 foundOf Nothing = none
 
--- a search that is at i may go on at r
-pub record Passed (bars : ℕ → Bool) (s : List ℕ) (i r : ℕ) : Type 0 where
-  pub same : nextFrom bars s i ≡ nextFrom bars s r
+-- a search that is at i may go on at r, whatever bytes a reading bars
+pub record Passed (s : List ℕ) (i r : ℕ) : Type 0 where
+  pub same : (bars : ℕ → Bool) → nextFrom bars s i ≡ nextFrom bars s r
   pub onward : i ≤ r
 
 -- the places of a parenthetical fit a record's words

@@ -1,9 +1,10 @@
 // The fields of a parenthetical: each matcher answers the place past what it matched.
 ghost use mathlib.Core.Path.{_≡_};
-ghost use Rattle.byte_rules.specs.Reading.{rust};
+ghost use Rattle.byte_rules.specs.Reading.{named};
 ghost use Rattle.parentheticals.specs.Fields.{spaceEnd, spacesAt, signAt, phraseAt, fits, pictureAt, dateAt, authorStart, authorLen};
 ghost use Rattle.parentheticals.specs.Inner.{placeOf};
 use basics::Place;
+use byte_rules::Reading;
 use byte_rules::is_author_byte;
 use byte_rules::is_capital;
 use byte_rules::is_credit_space;
@@ -130,14 +131,15 @@ pub fn author_start(text: &[u8], at: usize) -> Place
     Place::At(end)
 }
 
-// How many bytes the author's character at `at` has; 0 if none stands there.
-pub fn author_len(text: &[u8], at: usize) -> usize
-    ensures { λ r. ⌜ r ≡ authorLen (rust .barsAuthor) (now (text .entry)) at ⌝ }
+// How many bytes the author's character at `at` has; 0 if none stands there, or one that the reading bars.
+pub fn author_len(reading: Reading, text: &[u8], at: usize) -> usize
+    ensures { λ r. ⌜ r ≡ authorLen (named reading .barsAuthor) (now (text .entry)) at ⌝ }
 {
     if text.len() <= at {
         return 0;
     }
-    if is_author_byte(text[at]) {
+    let c = text[at];
+    if is_author_byte(c) & !reading.bars_author(c) {
         return char_len(text, at);
     }
     0

@@ -6,6 +6,7 @@ mod matching;
 mod state;
 
 use basics::Span;
+use byte_rules::Reading;
 pub use list::PARENTHETICAL_WIDTH;
 pub use list::parentheticals;
 use records::Refusal;
@@ -29,8 +30,9 @@ pub struct Found {
     pub item: Parenthetical,
 }
 
-// How far a span's parentheticals are read: the next is looked for from `position` on, in the buffer up to `end`.
+// How far a span's parentheticals are read, and in which reading: the next is looked for from `position` on, in the buffer up to `end`.
 pub struct ParentheticalState {
+    pub reading: Reading,
     pub position: usize,
     pub end: usize,
 }

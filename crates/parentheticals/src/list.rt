@@ -2,7 +2,7 @@
 ghost use mathlib.Core.Path.{_≡_};
 ghost use mathlib.Core.List.{[], _∷_};
 ghost use lib.ListN.{length};
-ghost use Rattle.byte_rules.specs.Reading.{rust};
+ghost use Rattle.byte_rules.specs.Reading.{named};
 ghost use Rattle.records.specs.Answer.{filledAnswer};
 ghost use Rattle.records.specs.Records.{laid, wroteOf};
 ghost use Rattle.parentheticals.specs.Records.{kindOf, authorOf, dateOf, recordOf, recordWidth, parentheticalsAnswer, parentheticalsLeft};
@@ -12,6 +12,7 @@ use crate::Parenthetical;
 use crate::matching::Search;
 use crate::matching::next_match;
 use basics::Span;
+use byte_rules::Reading;
 use records::Checked;
 use records::Filled;
 use records::Wrote;
@@ -84,10 +85,16 @@ fn lay_found(room: &mut [u32], found: Found) -> Wrote
     )
 }
 
-// The parentheticals of the span from `start` to `end`, as records in `out`.
-pub fn parentheticals(buf: &[u8], start: usize, end: usize, out: &mut [u32]) -> Filled
-    ensures answer { λ r. ⌜ filledAnswer r ≡ parentheticalsAnswer rust (now (buf .entry)) start end (length (now (out .entry))) ⌝ }
-    ensures left { λ r. ⌜ now (out .exit) ≡ parentheticalsLeft rust (now (buf .entry)) start end (now (out .entry)) ⌝ }
+// The parentheticals of the span from `start` to `end`, in the reading that is named, as records in `out`.
+pub fn parentheticals(
+    reading: Reading,
+    buf: &[u8],
+    start: usize,
+    end: usize,
+    out: &mut [u32],
+) -> Filled
+    ensures answer { λ r. ⌜ filledAnswer r ≡ parentheticalsAnswer (named reading) (now (buf .entry)) start end (length (now (out .entry))) ⌝ }
+    ensures left { λ r. ⌜ now (out .exit) ≡ parentheticalsLeft (named reading) (now (buf .entry)) start end (now (out .entry)) ⌝ }
 {
     if let Checked::Refused(r) = check_span(buf.len(), start, end) {
         return Filled::Refused(r);
@@ -96,7 +103,7 @@ pub fn parentheticals(buf: &[u8], start: usize, end: usize, out: &mut [u32]) -> 
     let mut at: usize = 0;
     let mut n: usize = 0;
     loop {
-        let Search::Hit(found) = next_match(&buf[..end], from) else {
+        let Search::Hit(found) = next_match(reading, &buf[..end], from) else {
             break;
         };
         let wrote = lay_found(&mut out[at..], found);

@@ -1,6 +1,6 @@
 // What matches at an opening parenthesis, and the first match from a place on.
 ghost use mathlib.Core.Path.{_≡_};
-ghost use Rattle.byte_rules.specs.Reading.{rust};
+ghost use Rattle.byte_rules.specs.Reading.{named};
 ghost use Rattle.parentheticals.specs.Matching.{authorAfter, headAt, noticeAt, tailAt, creditOf, noticeOf, credited, noticed, nextFrom};
 ghost use Rattle.parentheticals.specs.Inner.{placeOf, headOf, tailOf, foundOf, Passed};
 use crate::Found;
@@ -11,6 +11,7 @@ use crate::fields::date_at;
 use crate::fields::phrase_at;
 use basics::Place;
 use basics::Span;
+use byte_rules::Reading;
 use look::byte_at;
 use scans::plain::lacks_8;
 
@@ -153,7 +154,7 @@ fn notice_of(kind: u8) -> Parenthetical
 
 // The search may go on from here: up to the next `(` no parenthetical begins. Most bytes are stepped over eight at a time.
 fn to_opening(text: &[u8], from: usize) -> usize
-    ensures { λ r. ⌜ Passed (rust .barsAuthor) (now (text .entry)) from r ⌝ }
+    ensures { λ r. ⌜ Passed (now (text .entry)) from r ⌝ }
 {
     let mut i = from;
     while lacks_8(text, i, b'(') {
@@ -168,10 +169,10 @@ fn to_opening(text: &[u8], from: usize) -> usize
     i
 }
 
-// The leftmost parenthetical from `from` on. At the first byte that does not fit, the field and the candidate are left,
+// The leftmost parenthetical from `from` on, in the reading that is named. At the first byte that does not fit, the field and the candidate are left,
 // and the next `(` after the candidate's own is tried.
-pub fn next_match(text: &[u8], from: usize) -> Search
-    ensures { λ r. ⌜ foundOf r ≡ nextFrom (rust .barsAuthor) (now (text .entry)) from ⌝ }
+pub fn next_match(reading: Reading, text: &[u8], from: usize) -> Search
+    ensures { λ r. ⌜ foundOf r ≡ nextFrom (named reading .barsAuthor) (now (text .entry)) from ⌝ }
 {
     let mut at = from;
     // The last author's field: from `start` to `i`, where it was left. None yet.
@@ -202,7 +203,7 @@ pub fn next_match(text: &[u8], from: usize) -> Search
             if byte_at(text, i, b',') {
                 break 'field;
             }
-            let n = author_len(text, i);
+            let n = author_len(reading, text, i);
             if n == 0 {
                 at = next;
                 continue 'candidates;

@@ -1,8 +1,11 @@
-// What programs share: standard input, to a limit or part by part, and standard output, gathered in a buffer that the program lends.
+// What programs share: their arguments, standard input, to a limit or part by part, and standard output, gathered in a buffer that the program lends.
+mod arguments;
 mod lines;
 mod reading;
 mod writing;
 
+pub use arguments::Asked;
+pub use arguments::asked_for;
 pub use lines::refusal_number;
 pub use reading::read_input;
 

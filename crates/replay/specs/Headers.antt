@@ -1,4 +1,4 @@
--- The header of a case, as bytes: op, flag, two bytes that are not looked at, and five words of four bytes each.
+-- The header of a case, as bytes: op, flag, reading, a byte that is not looked at, and five words of four bytes each.
 use Prim.Native.Nat.{ℕ, _+_, _*_}
 use mathlib.Core.List.{List}
 use lib.ListN.{getD}
@@ -13,6 +13,7 @@ headerOf s =
     record {
       op = getD s 0 0;
       flag = getD s 1 0;
+      reading = getD s 2 0;
       a = wordAt s 4;
       b = wordAt s 8;
       c = wordAt s 12;

@@ -7,6 +7,7 @@ use crate::output::no_case;
 use crate::tables::Tables;
 use crate::tables::ends_of;
 use crate::tables::names_of;
+use byte_rules::Reading;
 use programs::Output;
 use records::Filled;
 use verify_markup::DIAG_WIDTH;
@@ -19,6 +20,7 @@ ghost use Rattle.replay.specs.Tables.{Areas, Lent};
 // The check with the tables that stand. At flag 1 tags are not looked up; else they are, in the bibliography that is lent, or in none.
 fn check(
     h: Header,
+    reading: Reading,
     payload: &[u8],
     tables: Tables,
     names: &[u8],
@@ -34,19 +36,20 @@ fn check(
     let lb = names_of(names, tables.labels);
     let le = ends_of(ends, tables.labels);
     if h.flag == 1 {
-        return verify_markup_no_tag_lookup(payload, start, end, sb, se, lb, le, words);
+        return verify_markup_no_tag_lookup(reading, payload, start, end, sb, se, lb, le, words);
     }
     if tables.has_bibliography {
         let bb = names_of(names, tables.bibliography);
         let be = ends_of(ends, tables.bibliography);
-        return verify_markup(payload, start, end, sb, se, lb, le, bb, be, words);
+        return verify_markup(reading, payload, start, end, sb, se, lb, le, bb, be, words);
     }
-    verify_markup_without_bibliography(payload, start, end, sb, se, lb, le, words)
+    verify_markup_without_bibliography(reading, payload, start, end, sb, se, lb, le, words)
 }
 
 // The diagnostics of the span, listed in the words.
 pub fn list_diagnostics(
     h: Header,
+    reading: Reading,
     payload: &[u8],
     tables: Tables,
     names: &[u8],
@@ -60,6 +63,6 @@ pub fn list_diagnostics(
     if 1 < h.flag {
         return no_case(output);
     }
-    let filled = check(h, payload, tables, names, ends, words);
+    let filled = check(h, reading, payload, tables, names, ends, words);
     answered(emit_list(output, out, b'C', DIAG_WIDTH, filled, words))
 }

@@ -1,9 +1,12 @@
 // Ops Q and F: credits and notices, one at a time, and the flags.
 use crate::header::Header;
+use crate::header::Named;
+use crate::header::reading_of;
 use crate::names::bit;
 use crate::output::Told;
 use crate::output::answered;
 use crate::output::emit_record;
+use crate::output::no_case;
 use crate::output::told_line;
 use basics::Span;
 use parentheticals::Discouragements;
@@ -140,7 +143,10 @@ fn emit_credits(
 
 // The steps are made twice, as for S.
 pub fn stepping(h: Header, payload: &[u8], output: Output, out: &mut [u8]) -> Told {
-    match ParentheticalState::new(payload, h.a as usize, h.b as usize) {
+    let Named::Is(reading) = reading_of(h) else {
+        return no_case(output);
+    };
+    match ParentheticalState::new(reading, payload, h.a as usize, h.b as usize) {
         Started::Ready(state) => {
             let counted = count_steps(state, payload, h.c);
             let ended = bit(counted.is_end);

@@ -1,13 +1,15 @@
 // The header of a case.
+use byte_rules::Reading;
 ghost use mathlib.Core.Path.{_≡_};
 ghost use Prim.Native.Nat.{_+_, _≤_};
 ghost use lib.ListN.{length};
 ghost use Rattle.replay.specs.Headers.{wordAt, headerOf};
 
-// Op, flag, three numbers, the room lent and the length of the payload.
+// Op, flag, reading, three numbers, the room lent and the length of the payload.
 pub struct Header {
     pub op: u8,
     pub flag: u8,
+    pub reading: u8,
     pub a: u32,
     pub b: u32,
     pub c: u32,
@@ -36,10 +38,26 @@ pub fn read_header(s: &[u8]) -> Header
     Header {
         op: s[0],
         flag: s[1],
+        reading: s[2],
         a: word(s, 4),
         b: word(s, 8),
         c: word(s, 12),
         room: word(s, 16),
         n: word(s, 20),
+    }
+}
+
+// What a header says of the reading: its name, or none.
+pub enum Named {
+    Is(Reading),
+    IsNone,
+}
+
+// 0 names the Rust's reading, 1 the strict one.
+pub fn reading_of(h: Header) -> Named {
+    match h.reading {
+        0 => Named::Is(Reading::Rust),
+        1 => Named::Is(Reading::Strict),
+        _ => Named::IsNone,
     }
 }

@@ -4,6 +4,7 @@ use crate::output::Told;
 use crate::output::answered;
 use crate::output::emit_touch;
 use basics::least;
+use byte_rules::Reading;
 use events::EVENT_WIDTH;
 use events::events;
 use parentheticals::PARENTHETICAL_WIDTH;
@@ -94,23 +95,25 @@ pub fn emit_list(
 // The events of the span, listed in the words.
 pub fn list_events(
     h: Header,
+    reading: Reading,
     payload: &[u8],
     words: &mut [u32],
     output: Output,
     out: &mut [u8],
 ) -> Told {
-    let filled = events(payload, h.a as usize, h.b as usize, words);
+    let filled = events(reading, payload, h.a as usize, h.b as usize, words);
     answered(emit_list(output, out, b'E', EVENT_WIDTH, filled, words))
 }
 
 // The parentheticals of the span, listed in the words.
 pub fn list_parentheticals(
     h: Header,
+    reading: Reading,
     payload: &[u8],
     words: &mut [u32],
     output: Output,
     out: &mut [u8],
 ) -> Told {
-    let filled = parentheticals(payload, h.a as usize, h.b as usize, words);
+    let filled = parentheticals(reading, payload, h.a as usize, h.b as usize, words);
     answered(emit_list(output, out, b'P', PARENTHETICAL_WIDTH, filled, words))
 }

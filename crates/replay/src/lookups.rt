@@ -10,6 +10,7 @@ use crate::tables::Table;
 use crate::tables::Tables;
 use crate::tables::ends_of;
 use crate::tables::names_of;
+use byte_rules::Reading;
 use links::LINK_WIDTH;
 use links::links;
 use name_table::Known;
@@ -60,6 +61,7 @@ pub fn looking_up(
 // The links of the span to the labels, listed in the words.
 pub fn list_links(
     h: Header,
+    reading: Reading,
     payload: &[u8],
     tables: Tables,
     names: &[u8],
@@ -72,6 +74,6 @@ pub fn list_links(
 {
     let lb = names_of(names, tables.labels);
     let le = ends_of(ends, tables.labels);
-    let filled = links(payload, h.a as usize, h.b as usize, lb, le, words);
+    let filled = links(reading, payload, h.a as usize, h.b as usize, lb, le, words);
     answered(emit_list(output, out, b'H', LINK_WIDTH, filled, words))
 }

@@ -18,7 +18,9 @@ mod unescaping;
 
 use checks::list_diagnostics;
 use header::Header;
+use header::Named;
 use header::read_header;
+use header::reading_of;
 use lists::fill_words;
 use lists::list_events;
 use lists::list_parentheticals;
@@ -87,7 +89,7 @@ fn text_op(h: Header, payload: &[u8], room: &mut [u8], output: Output, out: &mut
     with_room(h, payload, &mut room[..lent], output, out)
 }
 
-// The list ops. The words hold their pattern before the call.
+// The list ops, in the reading that the header names. The words hold their pattern before the call.
 fn with_words(
     h: Header,
     payload: &[u8],
@@ -100,13 +102,16 @@ fn with_words(
 ) -> Told
     requires { ⌜ Lent tables × Areas (length (now names)) (length (now ends)) ⌝ }
 {
+    let Named::Is(reading) = reading_of(h) else {
+        return no_case(output);
+    };
     fill_words(words);
     let op = h.op;
     match op {
-        b'E' => list_events(h, payload, words, output, out),
-        b'P' => list_parentheticals(h, payload, words, output, out),
-        b'H' => list_links(h, payload, tables, names, ends, words, output, out),
-        _ => list_diagnostics(h, payload, tables, names, ends, words, output, out),
+        b'E' => list_events(h, reading, payload, words, output, out),
+        b'P' => list_parentheticals(h, reading, payload, words, output, out),
+        b'H' => list_links(h, reading, payload, tables, names, ends, words, output, out),
+        _ => list_diagnostics(h, reading, payload, tables, names, ends, words, output, out),
     }
 }
 

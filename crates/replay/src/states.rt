@@ -1,6 +1,7 @@
-// The ten words of a parser's state.
+// The ten words of a parser's state, which the header's reading completes.
 use crate::header::word;
 use basics::Span;
+use byte_rules::Reading;
 use comment_parser::CommentItem;
 use comment_parser::ParserState;
 use comment_parser::Placed;
@@ -77,8 +78,8 @@ pub fn italic_word(n: usize) -> u64 {
     n as u64
 }
 
-// The state of the ten words at the front.
-pub fn read_state(s: &[u8]) -> Words
+// The state of the ten words at the front, in a reading.
+pub fn read_state(reading: Reading, s: &[u8]) -> Words
     requires { ⌜ 40 ≤ length (now s) ⌝ }
 {
     let math = word(s, 8);
@@ -98,6 +99,7 @@ pub fn read_state(s: &[u8]) -> Words
         end: end as usize,
     };
     Words::Are(ParserState {
+        reading,
         end: word(s, 0) as usize,
         pos: word(s, 4) as usize,
         math: math == 1,

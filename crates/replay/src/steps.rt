@@ -1,5 +1,7 @@
 // Ops S and V: the parser, from a given state.
 use crate::header::Header;
+use crate::header::Named;
+use crate::header::reading_of;
 use crate::names::bit;
 use crate::output::Told;
 use crate::output::answered;
@@ -130,7 +132,10 @@ pub fn stepping(h: Header, payload: &[u8], output: Output, out: &mut [u8]) -> To
     if payload.len() < 40 {
         return no_case(output);
     }
-    let Words::Are(state) = read_state(payload) else {
+    let Named::Is(reading) = reading_of(h) else {
+        return no_case(output);
+    };
+    let Words::Are(state) = read_state(reading, payload) else {
         return no_case(output);
     };
     answered(emit_steps(output, out, state, &payload[40..], h.c))
@@ -181,7 +186,10 @@ pub fn own_unescaping(
     if payload.len() < 40 {
         return no_case(output);
     }
-    let Words::Are(state) = read_state(payload) else {
+    let Named::Is(reading) = reading_of(h) else {
+        return no_case(output);
+    };
+    let Words::Are(state) = read_state(reading, payload) else {
         return no_case(output);
     };
     answered(emit_own(h, state, &payload[40..], room, output, out))

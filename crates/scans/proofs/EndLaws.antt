@@ -58,7 +58,7 @@ blanks-to-end s i h f =
     let v : blanksEnd s i ≤ length s = scan-le (blanksStep s) (length s) i in
     by-less (blanksEnd s i) (length s) (λ l. clash (blanks-stopped s i) (f (blanksEnd s i) u l)) (λ l. omega arith)
 
-found : (b : Bool) (j q : ℕ) → elim b [ true ↦ At j | false ↦ Nowhere ] ≡ At q → (b ≡ true) × (j ≡ q)
+pub found : (b : Bool) (j q : ℕ) → elim b [ true ↦ At j | false ↦ Nowhere ] ≡ At q → (b ≡ true) × (j ≡ q)
 found true j q h = (refl, cc)
 found false j q h = absurd (differ cc)
 

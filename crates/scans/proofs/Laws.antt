@@ -1,7 +1,7 @@
 -- The laws of a scan: how it goes on at each step, and the one induction by which anything is shown of where it stops. Fuel is spoken of here alone.
 -- Assumes nothing.
 use Prim.Native.Nat.{ℕ, zero, suc, _+_, _-_, _≤_, _<_}
-use mathlib.Core.Bool.{Bool, true, false, _||_}
+use mathlib.Core.Bool.{Bool, true, false}
 use mathlib.Core.Path.{_≡_, refl, ap, _∙_, sym}
 use native.Mathlib.Nat.{le-refl}
 use native.Mathlib.Omega.{arith}
@@ -164,7 +164,3 @@ module _ (rule : ℕ → Step) (e : ℕ) where
 -- a test has one answer
 pub clash : {P : Type 0} {a : Bool} → a ≡ false → a ≡ true → P
 clash f t = absurd (differ cc)
-
-pub or-false : (a : Bool) → (a || false) ≡ a
-or-false true = refl
-or-false false = refl

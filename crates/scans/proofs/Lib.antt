@@ -2,4 +2,3 @@ pub mod Laws
 pub mod TagLaws
 pub mod PlainLaws
 pub mod EndLaws
-mod RustLaws

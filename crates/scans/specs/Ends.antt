@@ -5,7 +5,7 @@ use mathlib.Core.List.{List}
 use lib.Dec.{ltb}
 use lib.ListN.{length}
 use Rattle.byte_rules.specs.Text.{bytes}
-use Rattle.byte_rules.specs.Reading.{Reading, rust}
+use Rattle.byte_rules.specs.Reading.{Reading, named}
 use Rattle.look.specs.Look.{holdsAt, byteAt, blankAt, alphanumericAt, closerAt, doubledAt, wordAt}
 use Rattle.scans.specs.Marks.{tick, lbracket, rbracket, under, lf, cr, space, openHtml, closeHtml}
 use Rattle.scans.specs.Scan.{scan}
@@ -53,8 +53,8 @@ module _ (rd : Reading) (s : List ℕ) where
 unfoldable pub stepBy : List ℕ → Rule → ℕ → Step
 stepBy s Blanks = blanksStep s
 stepBy s Tag = tagStep s
-stepBy s Subscript = subscriptStep rust s
-stepBy s Italic = italicStep rust s
+stepBy s (Subscript n) = subscriptStep (named n) s
+stepBy s (Italic n) = italicStep (named n) s
 
 -- where the scan by a rule from i on stops
 abbrev pub scanBy : List ℕ → Rule → ℕ → ℕ

@@ -4,14 +4,17 @@ pub mod labels;
 pub mod plain;
 
 use basics::Place;
+use byte_rules::Reading;
 use look::alphanumeric_at;
+use look::bars_italic_at;
+use look::bars_subscript_at;
 use look::blank_at;
 use look::byte_at;
 use look::closer_at;
 use look::doubled_at;
 ghost use mathlib.Core.Path.{_≡_};
 ghost use Prim.Native.Nat.{_≤_};
-ghost use Rattle.byte_rules.specs.Reading.{rust};
+ghost use Rattle.byte_rules.specs.Reading.{named};
 ghost use Rattle.scans.specs.Ends.{blanksStep, tagStep, subscriptStep, italicStep, stepBy, scanBy, blanksEnd, tagStop, subscriptEnd, closesItalic, italicEnd};
 ghost use Rattle.scans.specs.Notes.{covers};
 
@@ -21,12 +24,12 @@ pub enum Step {
     Stop,
 }
 
-// The rule that a scan goes by.
+// The rule that a scan goes by; the last two are a reading's.
 pub enum Rule {
     Blanks,
     Tag,
-    Subscript,
-    Italic,
+    Subscript(Reading),
+    Italic(Reading),
 }
 
 // What a search for a tag's end that failed tells: no `[` from `from` on and before `to` opens a tag.
@@ -79,23 +82,23 @@ fn tag_step(text: &[u8], i: usize) -> Step
     }
 }
 
-fn subscript_step(text: &[u8], i: usize) -> Step
-    ensures { λ r. ⌜ r ≡ subscriptStep rust (now (text .entry)) i ⌝ }
+fn subscript_step(reading: Reading, text: &[u8], i: usize) -> Step
+    ensures { λ r. ⌜ r ≡ subscriptStep (named reading) (now (text .entry)) i ⌝ }
 {
-    if blank_at(text, i) | closer_at(text, i) {
+    if blank_at(text, i) | closer_at(text, i) | bars_subscript_at(reading, text, i) {
         Step::Stop
     } else {
         Step::One
     }
 }
 
-fn italic_step(text: &[u8], i: usize) -> Step
-    ensures { λ r. ⌜ r ≡ italicStep rust (now (text .entry)) i ⌝ }
+fn italic_step(reading: Reading, text: &[u8], i: usize) -> Step
+    ensures { λ r. ⌜ r ≡ italicStep (named reading) (now (text .entry)) i ⌝ }
 {
     if doubled_at(text, i, b'_') {
         return Step::Two;
     }
-    if byte_at(text, i, b'_') {
+    if byte_at(text, i, b'_') | bars_italic_at(reading, text, i) {
         Step::Stop
     } else {
         Step::One
@@ -108,8 +111,8 @@ fn step_by(rule: Rule, text: &[u8], i: usize) -> Step
     match rule {
         Rule::Blanks => blanks_step(text, i),
         Rule::Tag => tag_step(text, i),
-        Rule::Subscript => subscript_step(text, i),
-        Rule::Italic => italic_step(text, i),
+        Rule::Subscript(reading) => subscript_step(reading, text, i),
+        Rule::Italic(reading) => italic_step(reading, text, i),
     }
 }
 
@@ -143,10 +146,10 @@ pub fn tag_stop(text: &[u8], from: usize) -> usize
 }
 
 // Where a subscript whose text begins at `from` ends, if it is one: it is not empty.
-pub fn subscript_end(text: &[u8], from: usize) -> Place
-    ensures { λ r. ⌜ r ≡ subscriptEnd rust (now (text .entry)) from ⌝ }
+pub fn subscript_end(reading: Reading, text: &[u8], from: usize) -> Place
+    ensures { λ r. ⌜ r ≡ subscriptEnd (named reading) (now (text .entry)) from ⌝ }
 {
-    let j = scan_by(Rule::Subscript, text, from);
+    let j = scan_by(Rule::Subscript(reading), text, from);
     if from < j {
         Place::At(j)
     } else {
@@ -155,11 +158,11 @@ pub fn subscript_end(text: &[u8], from: usize) -> Place
 }
 
 // The lone `_` that ends an italic whose text begins at `from`, if it is one.
-pub fn italic_end(text: &[u8], from: usize) -> Place
-    ensures { λ r. ⌜ r ≡ italicEnd rust (now (text .entry)) from ⌝ }
+pub fn italic_end(reading: Reading, text: &[u8], from: usize) -> Place
+    ensures { λ r. ⌜ r ≡ italicEnd (named reading) (now (text .entry)) from ⌝ }
 {
     if alphanumeric_at(text, from) {
-        let j = scan_by(Rule::Italic, text, from + 1);
+        let j = scan_by(Rule::Italic(reading), text, from + 1);
         closes_italic(text, j)
     } else {
         Place::Nowhere

@@ -13,7 +13,7 @@ use Rattle.basics.specs.Member.{In}
 use Rattle.basics.specs.declared.Place.{Place}
 use Rattle.basics.specs.declared.Place.the-variants.{At, Nowhere}
 use Rattle.basics.proofs.Laws.{both, either}
-use Rattle.byte_rules.specs.Reading.{rust}
+use Rattle.byte_rules.specs.Reading.{Reading}
 use Rattle.look.specs.Look.{byteAt}
 use Rattle.look.proofs.Laws.{holds-within, byte-within}
 use Rattle.scans.specs.Marks.{tick, tilde}
@@ -160,9 +160,9 @@ module _ (buf : List ℕ) (short : length buf ≤ longest) where
         (fit-item n (isOpen (m .html)) i (f i here) (w i here))
         (fit-diags (modesAfter m i) is (opened-after (Fits buf) m i (f i here) o) (λ j k. f j (List·Memᴰ·tail k)) (λ j k. w j (List·Memᴰ·tail k)))
 
-  pub diagnostics-fit : (n : Names) (start end : ℕ) → AllFit buf (diagnostics n buf start end)
+  pub diagnostics-fit : (rd : Reading) (n : Names) (start end : ℕ) → AllFit buf (diagnostics rd n buf start end)
   unfolding diagnostics
-  diagnostics-fit n start end = fit-diags end n closed (eventsOf rust buf start end) (tt, tt) (event-fits buf short start end) (every-within rust buf start end)
+  diagnostics-fit rd n start end = fit-diags end n closed (eventsOf rd buf start end) (tt, tt) (event-fits rd buf short start end) (every-within rd buf start end)
 
 -- and each has the width of a record
 module _ (buf : List ℕ) (end : ℕ) (n : Names) where
@@ -171,6 +171,6 @@ module _ (buf : List ℕ) (end : ℕ) (n : Names) where
   wide-diags m [] = few-last end m .wide
   wide-diags m (i ∷ is) = wide-append (itemDiags buf n (isOpen (m .html)) i) (diagsFrom buf end n (modesAfter m i) is) (few-item buf n (isOpen (m .html)) i .wide) (wide-diags (modesAfter m i) is)
 
-pub diagnostics-wide : (n : Names) (buf : List ℕ) (start end : ℕ) → Wide diagWidth (diagnostics n buf start end)
+pub diagnostics-wide : (rd : Reading) (n : Names) (buf : List ℕ) (start end : ℕ) → Wide diagWidth (diagnostics rd n buf start end)
 unfolding diagnostics
-diagnostics-wide n buf start end = wide-diags buf end n closed (eventsOf rust buf start end)
+diagnostics-wide rd n buf start end = wide-diags buf end n closed (eventsOf rd buf start end)

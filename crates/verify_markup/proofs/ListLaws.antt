@@ -9,7 +9,8 @@ use native.Mathlib.Omega.{arith}
 use lib.ListN.{length}
 use types.Run.{OneOf, miss}
 use denote.Enum.Declared.{tagOf}
-use Rattle.byte_rules.specs.Reading.{rust}
+use Rattle.byte_rules.specs.Reading.{Reading, named}
+use Rattle.byte_rules.specs.declared.reading.Reading.{Reading as Name}
 use Rattle.scans.specs.declared.Note.{Note}
 use Rattle.basics.specs.declared.Place.{Place}
 use Rattle.basics.specs.declared.Place.the-variants.{At, Nowhere}
@@ -19,7 +20,7 @@ use Rattle.records.specs.declared.Wrote.{Wrote}
 use Rattle.records.proofs.Laying.{Laying, tail, back, laying-starts, laying-wrote, all-counted, all-laid}
 use Rattle.comment_parser.specs.Item.{placedOf}
 use Rattle.comment_parser.specs.State.{fresh}
-use Rattle.comment_parser.specs.Events.{left, seen, eventsFrom, eventsOf}
+use Rattle.comment_parser.specs.Events.{left, seen, eventsFrom}
 use Rattle.comment_parser.specs.Notes.{NextBy}
 use Rattle.comment_parser.specs.declared.CommentItem.{CommentItem}
 use Rattle.comment_parser.specs.declared.CommentItem.the-variants.{Text, LineBreak, StartMathMode, EndMathMode, MathToken, Label, Url, StartHtml, EndHtml, StartSubscript, EndSubscript, StartItalic, EndItalic, BibTag}
@@ -27,7 +28,7 @@ use Rattle.comment_parser.specs.declared.Next.the-variants.{Event}
 use Rattle.comment_parser.specs.declared.NextNoted.{NextNoted}
 use Rattle.comment_parser.specs.declared.ParserState.{ParserState}
 use Rattle.comment_parser.proofs.CommentItem.{the-type}
-use Rattle.comment_parser.proofs.Events.{events-on, events-end}
+use Rattle.comment_parser.proofs.Events.{events-on, events-end, events-start}
 use Rattle.comment_parser.proofs.InOrder.{given, seen-in-order, given-le}
 use Rattle.comment_parser.proofs.Along.{Along, along-starts, along-event, along-less, along-within, along-on}
 use Rattle.verify_markup.specs.Diag.{diagWidth, unclosedMathMarkup, unclosedHtml}
@@ -115,53 +116,53 @@ few-last end m = few-append (few-unclosed-math end (m .math)) (few-unclosed-html
 
 -- ---- the loop
 
-module _ (buf : List ℕ) (end : ℕ) (n : Names) (m : Modes) (st : ParserState) where
-  diags-on : (i : CommentItem) (t : ParserState) → seen rust buf st ≡ some (i, t)
-      → diagsFrom buf end n m (eventsFrom rust buf st) ≡ itemDiags buf n (isOpen (m .html)) i ++ diagsFrom buf end n (modesAfter m i) (eventsFrom rust buf t)
+module _ (rd : Reading) (buf : List ℕ) (end : ℕ) (n : Names) (m : Modes) (st : ParserState) where
+  diags-on : (i : CommentItem) (t : ParserState) → seen rd buf st ≡ some (i, t)
+      → diagsFrom buf end n m (eventsFrom rd buf st) ≡ itemDiags buf n (isOpen (m .html)) i ++ diagsFrom buf end n (modesAfter m i) (eventsFrom rd buf t)
   unfolding diagsFrom
-  diags-on i t h = rw (events-on rust buf st i t h)
+  diags-on i t h = rw (events-on rd buf st i t h)
 
-  diags-end : seen rust buf st ≡ none → diagsFrom buf end n m (eventsFrom rust buf st) ≡ lastDiags end m
+  diags-end : seen rd buf st ≡ none → diagsFrom buf end n m (eventsFrom rd buf st) ≡ lastDiags end m
   unfolding diagsFrom
-  diags-end h = rw (events-end rust buf st h)
+  diags-end h = rw (events-end rd buf st h)
 
 -- at the loop's head: the diagnostics from here on are to be laid behind those before, and the count fits
-pub record Going (n : Names) (buf : List ℕ) (start end : ℕ) (out₀ out : List ℕ) (st : ParserState) (note : Note) (m : Modes) (at k : ℕ) : Type 0 where
-  pub along : Along buf st note
+pub record Going (rd : Reading) (n : Names) (buf : List ℕ) (start end : ℕ) (out₀ out : List ℕ) (st : ParserState) (note : Note) (m : Modes) (at k : ℕ) : Type 0 where
+  pub along : Along rd buf st note
   pub to-end : st .end ≡ end
   pub opened : OpenedBoth (λ (i : ℕ). i ≤ longest) m
   pub few : k + 4 * left st + (end - given st) ≤ 9 * longest
-  pub laying : Laying diagWidth (diagnostics n buf start end) (diagsFrom buf end n m (eventsFrom rust buf st)) out₀ out at k
+  pub laying : Laying diagWidth (diagnostics rd n buf start end) (diagsFrom buf end n m (eventsFrom rd buf st)) out₀ out at k
 
-pub going-starts : (n : Names) (buf : List ℕ) (start end : ℕ) (out : List ℕ) (note : Note) → note .to ≡ 0 → end ≤ longest
-    → Going n buf start end out out (fresh start end) note closed 0 0
-unfolding diagnostics eventsOf
-going-starts n buf start end out note z h = record {
-  along = along-starts buf start end note z;
+pub going-starts : (name : Name) (n : Names) (buf : List ℕ) (start end : ℕ) (out : List ℕ) (note : Note) → note .to ≡ 0 → end ≤ longest
+    → Going (named name) n buf start end out out (fresh name start end) note closed 0 0
+unfolding diagnostics
+going-starts name n buf start end out note z h = record {
+  along = along-starts name buf start end note z;
   to-end = refl;
   opened = (tt, tt);
   few = omega arith;
-  laying = laying-starts diagWidth (diagnostics n buf start end) out;
+  laying = rw (events-start name buf start end) (laying-starts diagWidth (diagnostics (named name) n buf start end) out);
 }
 
-module _ {n : Names} {buf : List ℕ} {start end : ℕ} {out₀ out : List ℕ} {st : ParserState} {note : Note} {m : Modes} {at k : ℕ} (g : Going n buf start end out₀ out st note m at k) where
+module _ {rd : Reading} {n : Names} {buf : List ℕ} {start end : ℕ} {out₀ out : List ℕ} {st : ParserState} {note : Note} {m : Modes} {at k : ℕ} (g : Going rd n buf start end out₀ out st note m at k) where
   -- a turn: an event's records were laid in the tail, and `last` is the tail since
   pub going-on :
       (r : NextNoted) → NextBy buf st note r
       → (i : CommentItem) (t : ParserState) → r .next ≡ Event t i
       → (html : Bool) → html ≡ isOpen (m .html)
       → (w : Wrote) (last : List ℕ) → Did (itemDiags buf n html i) (tail at out) last w
-      → (at + w .words ≤ length out) × Going n buf start end out₀ (back at out last) t (r .note) (modesAfter m i) (at + w .words) (k + w .count)
+      → (at + w .words ≤ length out) × Going rd n buf start end out₀ (back at out last) t (r .note) (modesAfter m i) (at + w .words) (k + w .count)
   going-on r says i t e html same w last did =
       let item = few-item buf n html i in
       let on = along-event (g .along) says e in
       let less = along-less (g .along) says e in
       let next = along-on (g .along) says e in
-      let order = seen-in-order rust buf st (i, t) on (g .along .reached) in
+      let order = seen-in-order rd buf st (i, t) on (g .along .reached) in
       let fits = along-within (g .along) says e in
       let count = did-count item (tail at out) last w did in
-      let rest = diagsFrom buf end n (modesAfter m i) (eventsFrom rust buf t) in
-      let to-come : Laying diagWidth (diagnostics n buf start end) (itemDiags buf n html i ++ rest) out₀ out at k = rw same (rw (diags-on buf end n m st i t on) at (g .laying)) in
+      let rest = diagsFrom buf end n (modesAfter m i) (eventsFrom rd buf t) in
+      let to-come : Laying diagWidth (diagnostics rd n buf start end) (itemDiags buf n html i ++ rest) out₀ out at k = rw same (rw (diags-on rd buf end n m st i t on) at (g .laying)) in
       let lies = laying-wrote (itemDiags buf n html i) rest last to-come (item .wide) (did .1) w (did .0) in (
         lies .0,
         record {
@@ -174,8 +175,8 @@ module _ {n : Names} {buf : List ℕ} {start end : ℕ} {out₀ out : List ℕ} 
       )
 
   -- the end: the last diagnostics are to come
-  pub going-ends : seen rust buf st ≡ none → Laying diagWidth (diagnostics n buf start end) (lastDiags end m) out₀ out at k
-  going-ends h = rw (diags-end buf end n m st h) at (g .laying)
+  pub going-ends : seen rd buf st ≡ none → Laying diagWidth (diagnostics rd n buf start end) (lastDiags end m) out₀ out at k
+  going-ends h = rw (diags-end rd buf end n m st h) at (g .laying)
 
 -- the last records were laid in the tail, and `last` is the tail since
 pub last-laid : {all ws : List (List ℕ)} {out₀ out : List ℕ} {at k m : ℕ} → Laying diagWidth all ws out₀ out at k → Few m ws

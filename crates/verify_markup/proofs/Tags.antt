@@ -13,7 +13,6 @@ use Rattle.basics.specs.Member.{In}
 use Rattle.basics.specs.declared.Place.{Place}
 use Rattle.basics.specs.declared.Place.the-variants.{At, Nowhere}
 use Rattle.basics.proofs.Laws.{differ}
-use Rattle.byte_rules.specs.Reading.{rust}
 use Rattle.look.specs.Look.{byteAt}
 use Rattle.scans.specs.Marks.{tick, tilde}
 use Rattle.lines.specs.Lines.{lineOf, withLine, lined}
@@ -255,11 +254,11 @@ module _ (buf : List ℕ) where
 
 pub reported-exactly : ReportedExactly
 unfolding diagnostics
-reported-exactly n buf start end = record {
+reported-exactly rd n buf start end = record {
   only-when = λ w m k.
-      let f = from-diags buf n end closed (eventsOf rust buf start end) w m k in
+      let f = from-diags buf n end closed (eventsOf rd buf start end) w m k in
       record { from = f .from; to = f .to; is = f .same; undefined = record { tag = f .tag; missing = f .missing } };
-  whenever = λ a e u. to-diags buf n end a e (u .missing) closed (eventsOf rust buf start end) (u .tag);
+  whenever = λ a e u. to-diags buf n end a e (u .missing) closed (eventsOf rd buf start end) (u .tag);
 }
 
 -- ---- no bibliography, and the named choice
@@ -267,7 +266,7 @@ reported-exactly n buf start end = record {
 -- checks with equal refusals and equal lookups agree
 same-check : {t u : Tables} → tablesRefusal t ≡ tablesRefusal u → namesOf t ≡ namesOf u → SameCheck t u
 unfolding checkRefusal
-same-check r n = record { answer = λ buf start end room. rw (r, n); left = λ buf start end room. rw (r, n) }
+same-check r n = record { answer = λ rd buf start end room. rw (r, n); left = λ rd buf start end room. rw (r, n) }
 
 pub without-is-empty : WithoutIsEmpty
 unfolding tablesRefusal
@@ -277,20 +276,20 @@ without-is-empty sb se lb le = same-check (rw (← empty-good 3)) names
     names i = record { symbol = entryOf sb se; label = entryOf lb le; tags = ap lookedUp (sym (fun-ext empty-missing)) i }
 
 pub every-tag : EveryTag
-every-tag sb se lb le buf start end a e m =
-    Memᴰ·map (withLine (lineOf buf)) (reported-exactly (namesOf (tables sb se lb le notLent)) buf start end .whenever a e (record { tag = m; missing = refl }))
+every-tag rd sb se lb le buf start end a e m =
+    Memᴰ·map (withLine (lineOf buf)) (reported-exactly rd (namesOf (tables sb se lb le notLent)) buf start end .whenever a e (record { tag = m; missing = refl }))
 
 pub nothing-else : NothingElse
 unfolding diagnostics
-nothing-else sb se lb le buf start end b =
+nothing-else rd sb se lb le buf start end b =
     let n = namesOf (tables sb se lb le b) in
-    kinds-lined buf (diagnostics n buf start end) ∙ ap (lined buf) (left-out buf n end closed (eventsOf rust buf start end))
+    kinds-lined buf (diagnostics rd n buf start end) ∙ ap (lined buf) (left-out buf n end closed (eventsOf rd buf start end))
 
 pub no-eight : NoEight
-no-eight sb se lb le buf start end =
+no-eight rd sb se lb le buf start end =
     let n = namesOf (tables sb se lb le noTagLookup) in
-    others-lined buf (diagnostics n buf start end) (λ w m k.
-    let f = reported-exactly n buf start end .only-when w m k in
+    others-lined buf (diagnostics rd n buf start end) (λ w m k.
+    let f = reported-exactly rd n buf start end .only-when w m k in
     absurd (differ (let u = f .undefined .missing in cc)))
 
 pub not-looked-at : NotLookedAt

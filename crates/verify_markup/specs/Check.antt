@@ -4,6 +4,7 @@ use mathlib.Core.List.{List}
 use mathlib.Core.Option.{Option, none}
 use lib.ListN.{length}
 use Rattle.basics.specs.Choice.{orElse}
+use Rattle.byte_rules.specs.Reading.{Reading}
 use Rattle.records.specs.Answer.{Answer, spanRefusal}
 use Rattle.records.specs.Records.{listAnswer, listLeft}
 use Rattle.lines.specs.Lines.{lined}
@@ -72,12 +73,12 @@ abbrev pub tables : List ℕ → List ℕ → List ℕ → List ℕ → Bibliogr
 tables sb se lb le bib = record { symbols = table sb se; labels = table lb le; bibliography = bib }
 
 -- the diagnostics of the span, with their lines; neighbours, doubling and lines are looked up in the whole buffer
-abbrev pub checkDiags : List ℕ → ℕ → ℕ → Tables → List (List ℕ)
-checkDiags buf start end t = lined buf (diagnostics (namesOf t) buf start end)
+abbrev pub checkDiags : Reading → List ℕ → ℕ → ℕ → Tables → List (List ℕ)
+checkDiags rd buf start end t = lined buf (diagnostics rd (namesOf t) buf start end)
 
 -- what the check answers, and what it leaves in a room
-abbrev pub checkAnswer : List ℕ → ℕ → ℕ → Tables → ℕ → Answer
-checkAnswer buf start end t room = listAnswer (checkRefusal buf start end t) diagWidth (checkDiags buf start end t) room
+abbrev pub checkAnswer : Reading → List ℕ → ℕ → ℕ → Tables → ℕ → Answer
+checkAnswer rd buf start end t room = listAnswer (checkRefusal buf start end t) diagWidth (checkDiags rd buf start end t) room
 
-abbrev pub checkLeft : List ℕ → ℕ → ℕ → Tables → List ℕ → List ℕ
-checkLeft buf start end t room = listLeft (checkRefusal buf start end t) diagWidth (checkDiags buf start end t) room
+abbrev pub checkLeft : Reading → List ℕ → ℕ → ℕ → Tables → List ℕ → List ℕ
+checkLeft rd buf start end t room = listLeft (checkRefusal buf start end t) diagWidth (checkDiags rd buf start end t) room

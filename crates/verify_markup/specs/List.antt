@@ -2,7 +2,7 @@
 use Prim.Native.Nat.{ℕ}
 use mathlib.Core.Bool.{Bool, true, false}
 use mathlib.Core.List.{List, [], _∷_, _++_}
-use Rattle.byte_rules.specs.Reading.{rust}
+use Rattle.byte_rules.specs.Reading.{Reading}
 use Rattle.basics.specs.declared.Place.{Place}
 use Rattle.basics.specs.declared.Place.the-variants.{At, Nowhere}
 use Rattle.comment_parser.specs.Events.{eventsOf}
@@ -54,5 +54,5 @@ module _ (buf : List ℕ) (end : ℕ) where
   diagsFrom n m (i ∷ is) = itemDiags buf n (isOpen (m .html)) i ++ diagsFrom n (modesAfter m i) is
 
 -- all of a span, but for their lines
-unfoldable pub diagnostics : Names → List ℕ → ℕ → ℕ → List (List ℕ)
-diagnostics n buf start end = diagsFrom buf end n closed (eventsOf rust buf start end)
+unfoldable pub diagnostics : Reading → Names → List ℕ → ℕ → ℕ → List (List ℕ)
+diagnostics rd n buf start end = diagsFrom buf end n closed (eventsOf rd buf start end)

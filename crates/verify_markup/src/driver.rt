@@ -5,6 +5,7 @@ use crate::items::lay_item;
 use crate::kinds::DIAG_WIDTH;
 use crate::opened::lay_last;
 use basics::Place;
+use byte_rules::Reading;
 use comment_parser::Next;
 use comment_parser::ParserState;
 use lines::fill_lines;
@@ -15,6 +16,7 @@ use records::check_span;
 use scans::Note;
 ghost use mathlib.Core.Path.{_≡_};
 ghost use lib.ListN.{length};
+ghost use Rattle.byte_rules.specs.Reading.{named};
 ghost use Rattle.records.specs.Answer.{filledAnswer, checkedAnswer};
 ghost use Rattle.records.specs.Records.{laid};
 ghost use Rattle.verify_markup.specs.Diag.{diagWidth};
@@ -25,6 +27,7 @@ ghost use Rattle.verify_markup.specs.Bounds.{InBuf};
 
 // Lays the diagnostics of the span, but for their lines, as many as fit, and counts them.
 fn lay_all(
+    reading: Reading,
     buf: &[u8],
     start: usize,
     end: usize,
@@ -40,12 +43,12 @@ fn lay_all(
     requires { ⌜ InBuf (now buf) start end ⌝ }
     ensures count { λ r.
         let names = lentNames (now (sb .entry)) (now (se .entry)) (now (lb .entry)) (now (le .entry)) tags (now (bb .entry)) (now (be .entry)) in
-        ⌜ r ≡ length (diagnostics names (now (buf .entry)) start end) ⌝ }
+        ⌜ r ≡ length (diagnostics (named reading) names (now (buf .entry)) start end) ⌝ }
     ensures left { λ r.
         let names = lentNames (now (sb .entry)) (now (se .entry)) (now (lb .entry)) (now (le .entry)) tags (now (bb .entry)) (now (be .entry)) in
-        ⌜ now (out .exit) ≡ laid diagWidth (diagnostics names (now (buf .entry)) start end) (now (out .entry)) ⌝ }
+        ⌜ now (out .exit) ≡ laid diagWidth (diagnostics (named reading) names (now (buf .entry)) start end) (now (out .entry)) ⌝ }
 {
-    let mut st = ParserState::new(start, end);
+    let mut st = ParserState::new(reading, start, end);
     let mut note = Note::nothing();
     let mut modes = Modes {
         math: Place::Nowhere,
@@ -112,6 +115,7 @@ fn check_tables(
 
 // The comment check, with tags looked up in the third table or not looked up. An enum cannot hold a table, so it stands beside the choice.
 pub(crate) fn check(
+    reading: Reading,
     buf: &[u8],
     start: usize,
     end: usize,
@@ -126,10 +130,10 @@ pub(crate) fn check(
 ) -> Filled
     ensures answer { λ r.
         let t = lentTables (now (sb .entry)) (now (se .entry)) (now (lb .entry)) (now (le .entry)) tags (now (bb .entry)) (now (be .entry)) in
-        ⌜ filledAnswer r ≡ checkAnswer (now (buf .entry)) start end t (length (now (out .entry))) ⌝ }
+        ⌜ filledAnswer r ≡ checkAnswer (named reading) (now (buf .entry)) start end t (length (now (out .entry))) ⌝ }
     ensures left { λ r.
         let t = lentTables (now (sb .entry)) (now (se .entry)) (now (lb .entry)) (now (le .entry)) tags (now (bb .entry)) (now (be .entry)) in
-        ⌜ now (out .exit) ≡ checkLeft (now (buf .entry)) start end t (now (out .entry)) ⌝ }
+        ⌜ now (out .exit) ≡ checkLeft (named reading) (now (buf .entry)) start end t (now (out .entry)) ⌝ }
 {
     if let Checked::Refused(why) = check_span(buf.len(), start, end) {
         return Filled::Refused(why);
@@ -137,7 +141,7 @@ pub(crate) fn check(
     if let Checked::Refused(why) = check_tables(sb, se, lb, le, tags, bb, be) {
         return Filled::Refused(why);
     }
-    let n = lay_all(buf, start, end, sb, se, lb, le, tags, bb, be, out);
+    let n = lay_all(reading, buf, start, end, sb, se, lb, le, tags, bb, be, out);
     fill_lines(buf, n, out);
     if n <= out.len() / DIAG_WIDTH {
         Filled::Done(n)

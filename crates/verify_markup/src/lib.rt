@@ -8,11 +8,13 @@ mod opened;
 mod texts;
 
 use basics::Place;
+use byte_rules::Reading;
 use driver::check;
 pub use kinds::DIAG_WIDTH;
 use records::Filled;
 ghost use mathlib.Core.Path.{_≡_};
 ghost use lib.ListN.{length};
+ghost use Rattle.byte_rules.specs.Reading.{named};
 ghost use Rattle.records.specs.Answer.{filledAnswer};
 ghost use Rattle.verify_markup.specs.Check.{lent, notLent, noTagLookup, table, tables, checkAnswer, checkLeft};
 
@@ -28,9 +30,10 @@ pub enum TagLookup {
     NotLookedUp,
 }
 
-// The diagnostics of the span, with a bibliography.
+// The diagnostics of the span in the reading that is named, with a bibliography.
 // Its bytes and ends are `bb` and `be`, those of the symbols `sb` and `se`, of the labels `lb` and `le`.
 pub fn verify_markup(
+    reading: Reading,
     buf: &[u8],
     start: usize,
     end: usize,
@@ -44,12 +47,13 @@ pub fn verify_markup(
 ) -> Filled
     ensures answer { λ r.
         let t = tables (now (sb .entry)) (now (se .entry)) (now (lb .entry)) (now (le .entry)) (lent (table (now (bb .entry)) (now (be .entry)))) in
-        ⌜ filledAnswer r ≡ checkAnswer (now (buf .entry)) start end t (length (now (out .entry))) ⌝ }
+        ⌜ filledAnswer r ≡ checkAnswer (named reading) (now (buf .entry)) start end t (length (now (out .entry))) ⌝ }
     ensures left { λ r.
         let t = tables (now (sb .entry)) (now (se .entry)) (now (lb .entry)) (now (le .entry)) (lent (table (now (bb .entry)) (now (be .entry)))) in
-        ⌜ now (out .exit) ≡ checkLeft (now (buf .entry)) start end t (now (out .entry)) ⌝ }
+        ⌜ now (out .exit) ≡ checkLeft (named reading) (now (buf .entry)) start end t (now (out .entry)) ⌝ }
 {
     check(
+        reading,
         buf,
         start,
         end,
@@ -66,6 +70,7 @@ pub fn verify_markup(
 
 // The same where no bibliography is lent, as with an empty one: every tag is undefined.
 pub fn verify_markup_without_bibliography(
+    reading: Reading,
     buf: &[u8],
     start: usize,
     end: usize,
@@ -77,17 +82,18 @@ pub fn verify_markup_without_bibliography(
 ) -> Filled
     ensures answer { λ r.
         let t = tables (now (sb .entry)) (now (se .entry)) (now (lb .entry)) (now (le .entry)) notLent in
-        ⌜ filledAnswer r ≡ checkAnswer (now (buf .entry)) start end t (length (now (out .entry))) ⌝ }
+        ⌜ filledAnswer r ≡ checkAnswer (named reading) (now (buf .entry)) start end t (length (now (out .entry))) ⌝ }
     ensures left { λ r.
         let t = tables (now (sb .entry)) (now (se .entry)) (now (lb .entry)) (now (le .entry)) notLent in
-        ⌜ now (out .exit) ≡ checkLeft (now (buf .entry)) start end t (now (out .entry)) ⌝ }
+        ⌜ now (out .exit) ≡ checkLeft (named reading) (now (buf .entry)) start end t (now (out .entry)) ⌝ }
 {
     let tags = TagLookup::LookedUp;
-    check(buf, start, end, sb, se, lb, le, tags, b"", &[], out)
+    check(reading, buf, start, end, sb, se, lb, le, tags, b"", &[], out)
 }
 
 // The same for one who has no bibliography on purpose: tags are not looked up.
 pub fn verify_markup_no_tag_lookup(
+    reading: Reading,
     buf: &[u8],
     start: usize,
     end: usize,
@@ -99,11 +105,11 @@ pub fn verify_markup_no_tag_lookup(
 ) -> Filled
     ensures answer { λ r.
         let t = tables (now (sb .entry)) (now (se .entry)) (now (lb .entry)) (now (le .entry)) noTagLookup in
-        ⌜ filledAnswer r ≡ checkAnswer (now (buf .entry)) start end t (length (now (out .entry))) ⌝ }
+        ⌜ filledAnswer r ≡ checkAnswer (named reading) (now (buf .entry)) start end t (length (now (out .entry))) ⌝ }
     ensures left { λ r.
         let t = tables (now (sb .entry)) (now (se .entry)) (now (lb .entry)) (now (le .entry)) noTagLookup in
-        ⌜ now (out .exit) ≡ checkLeft (now (buf .entry)) start end t (now (out .entry)) ⌝ }
+        ⌜ now (out .exit) ≡ checkLeft (named reading) (now (buf .entry)) start end t (now (out .entry)) ⌝ }
 {
     let tags = TagLookup::NotLookedUp;
-    check(buf, start, end, sb, se, lb, le, tags, b"", &[], out)
+    check(reading, buf, start, end, sb, se, lb, le, tags, b"", &[], out)
 }

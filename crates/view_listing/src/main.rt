@@ -1,5 +1,6 @@
 // Lists a sample comment of document 01, read through a view: the answer, and then the words of the room, a record to a line.
 // First with room for all, then with room for two records and three words, then over a span that is refused.
+use byte_rules::Reading;
 use comment_view::events_by_view;
 use events::EVENT_WIDTH;
 use programs::Output;
@@ -22,7 +23,7 @@ fn put_answer(output: Output, buffer: &mut [u8], answer: Filled) -> Output {
 }
 
 fn put_listing(output: Output, buffer: &mut [u8], end: usize, room: &mut [u32]) -> Output {
-    let answer = events_by_view(b"x_0 ~ ax-1.", 0, end, room);
+    let answer = events_by_view(Reading::Rust, b"x_0 ~ ax-1.", 0, end, room);
     let head = put_answer(output, buffer, answer);
     head.rows(buffer, room, EVENT_WIDTH)
 }

@@ -41,7 +41,7 @@ use denote.Triple.Spec.{Meets, tripleOf}
 use denote.Triple.Table.{entered, cited}
 use denote.Triple.Walked.{says, Stays, stay-ref, stay-none-slice, walkOf, AllGo, goes-ref, goes-none-slice, Walks, ends-at, walked, walk-meets}
 use denote.Exit.{yes}
-use Rattle.byte_rules.specs.Reading.{rust}
+use Rattle.byte_rules.specs.Reading.{named as read-as}
 use Rattle.comment_parser.specs.Next.{nextOf}
 use Rattle.comment_view.specs.View.{gives}
 use Rattle.comment_parser.specs.declared.ParserState.{ParserState}
@@ -82,7 +82,7 @@ module _ {M : Type 1} (𝓤 : URA M) (H : Heap 𝓤) (A : Atoms 𝓤) (W : Given
 
   -- what `read_step` says
   abbrev Said : Stepped → Type 0
-  Said r = gives (r .next) (r .state) ≡ nextOf rust (now s) h
+  Said r = gives (r .next) (r .state) ≡ nextOf (read-as (h .reading)) (now s) h
 
   abbrev Post : Val → SProp 𝓤
   Post = walkOf 𝓤 H A advance.ended stayed (advance.clauses 𝓤 H A at-mem run) .post (((κ, (κ′, tt)), (q, (q′, tt)), tt, x, at), tt)

@@ -12,6 +12,7 @@ use Rattle.records.specs.Answer.{Answer, checkedAnswer, spanRefusal}
 use Rattle.records.proofs.Answers.{span-accepted}
 use Rattle.records.specs.Records.{laid}
 use Rattle.records.proofs.Laying.{Laying, back, given-refused, all-counted, all-laid, listed-done, listed-short}
+use Rattle.byte_rules.specs.Reading.{named}
 use Rattle.comment_parser.specs.Events.{left}
 use Rattle.comment_parser.proofs.Along.{along-end, along-less, along-within}
 use Rattle.comment_parser.proofs.Giving.{Going, going-starts, going-on, going-ends}
@@ -21,10 +22,10 @@ use Rattle.events.proofs.events.Statement.{statement}
 use Rattle.events.proofs.events.Tie as tie
 
 abbrev Inv-loop : tie.InvT-loop
-Inv-loop buf start end out₀ st₀ note₀ at₀ n₀ out st note at n = Going eventWidth buf (placedFrom buf) (placedRecords buf start end) out₀ out st note at n
+Inv-loop reading buf start end out₀ st₀ note₀ at₀ n₀ out st note at n = Going (named reading) eventWidth buf (placedFrom (named reading) buf) (placedRecords (named reading) buf start end) out₀ out st note at n
 
 abbrev μ-loop : tie.MeasureT-loop
-μ-loop buf start end out₀ st₀ note₀ at₀ n₀ out st note at n = left st
+μ-loop reading buf start end out₀ st₀ note₀ at₀ n₀ out st note at n = left st
 
 check-span-requires : tie.Need-check-span-requires Inv-loop μ-loop
 check-span-requires c κs = search needs
@@ -58,8 +59,8 @@ loop-holds : tie.Need-loop-holds Inv-loop μ-loop
 loop-holds c =
     let a = c .before .before .before .before .before .before .before .args in
     let fits = span-accepted (length (a .buf .now)) (a .start) (a .end) (sym (good (c .before .before))) in
-    rw (c .before .new .ensures, ← records-start (a .buf .now) (a .start) (a .end))
-    (going-starts eventWidth (a .buf .now) (placedFrom (a .buf .now)) (a .start) (a .end) (a .out .now) (c .nothing .result) (c .nothing .ensures .1) (omega arith))
+    rw (c .before .new .ensures, ← records-start (a .reading) (a .buf .now) (a .start) (a .end))
+    (going-starts (a .reading) eventWidth (a .buf .now) (placedFrom (named (a .reading)) (a .buf .now)) (a .start) (a .end) (a .out .now) (c .nothing .result) (c .nothing .ensures .1) (omega arith))
 
 next-noted-requires : tie.Need-next-noted-requires Inv-loop μ-loop
 next-noted-requires c κs = search needs
@@ -108,10 +109,10 @@ module _ (c : tie.After-lay-event Inv-loop μ-loop) where
       let l = head .loop in
       let w = c .lay-event .result in
       (l .at + w .words ≤ length (l .out))
-      × Going eventWidth (a .buf .now) (placedFrom (a .buf .now)) (placedRecords (a .buf .now) (a .start) (a .end)) (a .out .now) (back (l .at) (l .out) (c .lay-event .last .0)) (event .next .given .0 .0) (call .next-noted .result .note) (l .at + w .words) (l .n + w .count)
+      × Going (named (a .reading)) eventWidth (a .buf .now) (placedFrom (named (a .reading)) (a .buf .now)) (placedRecords (named (a .reading)) (a .buf .now) (a .start) (a .end)) (a .out .now) (back (l .at) (l .out) (c .lay-event .last .0)) (event .next .given .0 .0) (call .next-noted .result .note) (l .at + w .words) (l .n + w .count)
 
   turned : Turned
-  turned = going-on (records-given _) (head .loop .inv) (call .next-noted .ensures) (event .next .given .1) (c .lay-event .ensures .0) (c .lay-event .ensures .1)
+  turned = going-on (records-given _ _) (head .loop .inv) (call .next-noted .ensures) (event .next .given .1) (c .lay-event .ensures .0) (c .lay-event .ensures .1)
 
 add-at : tie.Need-add-at Inv-loop μ-loop
 add-at c =
@@ -133,11 +134,11 @@ loop-again c = turned (c .before .before .before .before) .1
 none-to-come : (c : tie.At-match2-keys2 Inv-loop μ-loop)
     → let l = c .before .before .before in
     let a = entry l .args in
-    Laying eventWidth (placedRecords (a .buf .now) (a .start) (a .end)) [] (a .out .now) (l .loop .out) (l .loop .at) (l .loop .n)
+    Laying eventWidth (placedRecords (named (a .reading)) (a .buf .now) (a .start) (a .end)) [] (a .out .now) (l .loop .out) (l .loop .at) (l .loop .n)
 none-to-come c =
     let call = c .before .before in
     let inv = call .before .loop .inv in
-    going-ends (records-given _) inv (along-end (inv .along) (call .next-noted .ensures) (c .match2 .keys2))
+    going-ends (records-given _ _) inv (along-end (inv .along) (call .next-noted .ensures) (c .match2 .keys2))
 
 fill-lines-requires : tie.Need-fill-lines-requires Inv-loop μ-loop
 fill-lines-requires c κs = search needs
@@ -150,17 +151,17 @@ module _ (c : tie.After-fill-lines Inv-loop μ-loop) where
   accepted : none ≡ refusal (entry last)
   accepted = good (last .before .before .before)
 
-  counted : let a = entry last .args in last .loop .n ≡ length (eventRecords (a .buf .now) (a .start) (a .end))
+  counted : let a = entry last .args in last .loop .n ≡ length (eventRecords (named (a .reading)) (a .buf .now) (a .start) (a .end))
   counted =
       let a = entry last .args in
       let l = none-to-come (c .before .before) in
-      events-counted (a .buf .now) (a .start) (a .end) (a .out .now) accepted (all-counted l) (all-laid l)
+      events-counted (named (a .reading)) (a .buf .now) (a .start) (a .end) (a .out .now) accepted (all-counted l) (all-laid l)
 
-  lined : let a = entry last .args in c .fill-lines .last .1 .1 .0 ≡ laid eventWidth (eventRecords (a .buf .now) (a .start) (a .end)) (a .out .now)
+  lined : let a = entry last .args in c .fill-lines .last .1 .1 .0 ≡ laid eventWidth (eventRecords (named (a .reading)) (a .buf .now) (a .start) (a .end)) (a .out .now)
   lined =
       let a = entry last .args in
       let l = none-to-come (c .before .before) in
-      c .fill-lines .ensures ∙ events-laid (a .buf .now) (a .start) (a .end) (a .out .now) accepted (all-counted l) (all-laid l)
+      c .fill-lines .ensures ∙ events-laid (named (a .reading)) (a .buf .now) (a .start) (a .end) (a .out .now) accepted (all-counted l) (all-laid l)
 
 same-length : tie.Need-same-length Inv-loop μ-loop
 same-length c = search needs

@@ -13,6 +13,7 @@ use Rattle.records.specs.Answer.{longest, checkedAnswer, spanRefusal}
 use Rattle.records.proofs.Answers.{span-accepted}
 use Rattle.records.proofs.Laying.{Laying, back, given-refused, given-done, given-short}
 use Rattle.name_table.specs.Table.{tableRefusal}
+use Rattle.byte_rules.specs.Reading.{named}
 use Rattle.comment_parser.specs.Events.{left}
 use Rattle.comment_parser.proofs.Along.{along-end, along-less, along-inside}
 use Rattle.comment_parser.proofs.Giving.{Going, going-starts, going-on, going-ends}
@@ -22,10 +23,10 @@ use Rattle.links.proofs.links.Statement.{statement}
 use Rattle.links.proofs.links.Tie as tie
 
 abbrev Inv-loop : tie.InvT-loop
-Inv-loop buf start end lb le out₀ st₀ note₀ at₀ n₀ out st note at n = Going linkWidth buf (linksOn buf lb le) (linksOf buf lb le start end) out₀ out st note at n
+Inv-loop reading buf start end lb le out₀ st₀ note₀ at₀ n₀ out st note at n = Going (named reading) linkWidth buf (linksOn (named reading) buf lb le) (linksOf (named reading) buf lb le start end) out₀ out st note at n
 
 abbrev μ-loop : tie.MeasureT-loop
-μ-loop buf start end lb le out₀ st₀ note₀ at₀ n₀ out st note at n = left st
+μ-loop reading buf start end lb le out₀ st₀ note₀ at₀ n₀ out st note at n = left st
 
 check-span-requires : tie.Need-check-span-requires Inv-loop μ-loop
 check-span-requires c κs = search needs
@@ -97,8 +98,8 @@ loop-holds : tie.Need-loop-holds Inv-loop μ-loop
 loop-holds c =
     let t = c .before .before in
     let a = start t .args in
-    rw (c .before .new .ensures, ← links-start (a .buf .now) (a .lb .now) (a .le .now) (a .start) (a .end))
-    (going-starts linkWidth (a .buf .now) (linksOn (a .buf .now) (a .lb .now) (a .le .now)) (a .start) (a .end) (a .out .now) (c .nothing .result) (c .nothing .ensures .1) (omega (arith, fits t)))
+    rw (c .before .new .ensures, ← links-start (a .reading) (a .buf .now) (a .lb .now) (a .le .now) (a .start) (a .end))
+    (going-starts (a .reading) linkWidth (a .buf .now) (linksOn (named (a .reading)) (a .buf .now) (a .lb .now) (a .le .now)) (a .start) (a .end) (a .out .now) (c .nothing .result) (c .nothing .ensures .1) (omega (arith, fits t)))
 
 next-noted-requires : tie.Need-next-noted-requires Inv-loop μ-loop
 next-noted-requires c κs = search needs
@@ -148,10 +149,10 @@ module _ (c : tie.After-lay-item Inv-loop μ-loop) where
       let l = head .loop in
       let w = c .lay-item .result in
       (l .at + w .words ≤ length (l .out))
-      × Going linkWidth (a .buf .now) (linksOn (a .buf .now) (a .lb .now) (a .le .now)) (linksOf (a .buf .now) (a .lb .now) (a .le .now) (a .start) (a .end)) (a .out .now) (back (l .at) (l .out) (c .lay-item .last .1 .1 .1 .1 .0)) (event .next .given .0 .0) (call .next-noted .result .note) (l .at + w .words) (l .n + w .count)
+      × Going (named (a .reading)) linkWidth (a .buf .now) (linksOn (named (a .reading)) (a .buf .now) (a .lb .now) (a .le .now)) (linksOf (named (a .reading)) (a .buf .now) (a .lb .now) (a .le .now) (a .start) (a .end)) (a .out .now) (back (l .at) (l .out) (c .lay-item .last .1 .1 .1 .1 .0)) (event .next .given .0 .0) (call .next-noted .result .note) (l .at + w .words) (l .n + w .count)
 
   turned : Turned
-  turned = going-on (links-given _ _ _) (head .loop .inv) (call .next-noted .ensures) (event .next .given .1) (c .lay-item .ensures .0) (c .lay-item .ensures .1)
+  turned = going-on (links-given _ _ _ _) (head .loop .inv) (call .next-noted .ensures) (event .next .given .1) (c .lay-item .ensures .0) (c .lay-item .ensures .1)
 
 add-at : tie.Need-add-at Inv-loop μ-loop
 add-at c =
@@ -173,11 +174,11 @@ loop-again c = turned (c .before .before .before .before) .1
 none-to-come : (c : tie.At-match3-keys2 Inv-loop μ-loop)
     → let l = c .before .before .before in
     let a = start (checked l) .args in
-    Laying linkWidth (linksOf (a .buf .now) (a .lb .now) (a .le .now) (a .start) (a .end)) [] (a .out .now) (l .loop .out) (l .loop .at) (l .loop .n)
+    Laying linkWidth (linksOf (named (a .reading)) (a .buf .now) (a .lb .now) (a .le .now) (a .start) (a .end)) [] (a .out .now) (l .loop .out) (l .loop .at) (l .loop .n)
 none-to-come c =
     let call = c .before .before in
     let inv = call .before .loop .inv in
-    going-ends (links-given _ _ _) inv (along-end (inv .along) (call .next-noted .ensures) (c .match3 .keys2))
+    going-ends (links-given _ _ _ _) inv (along-end (inv .along) (call .next-noted .ensures) (c .match3 .keys2))
 
 same-length : tie.Need-same-length Inv-loop μ-loop
 same-length c = search needs

@@ -8,14 +8,15 @@ use native.Mathlib.Omega.{arith}
 use lib.ListN.{length}
 use borrow.Author.Needs.{needs}
 use Rattle.basics.proofs.Laws.{differ}
-use Rattle.byte_rules.specs.Reading.{rust}
+use Rattle.byte_rules.specs.Reading.{named}
 use Rattle.lines.specs.Lines.{lineOf}
 use Rattle.lines.proofs.Laws.{line-most}
 use Rattle.comment_parser.specs.Item.{placedOf}
-use Rattle.comment_parser.specs.Events.{left, seen, eventsOf}
+use Rattle.comment_parser.specs.Events.{left, seen}
 use Rattle.comment_parser.specs.declared.Placed.{Placed}
 use Rattle.comment_parser.specs.declared.CommentItem.{CommentItem}
 use Rattle.comment_parser.specs.declared.ParserState.{ParserState}
+use Rattle.comment_parser.proofs.Events.{events-start}
 use Rattle.comment_parser.proofs.Along.{Along, along-starts, along-end, along-event, along-less, along-within, along-on}
 use Rattle.programs.specs.Output.{waiting, gathered}
 use Rattle.programs.proofs.Gathering.{gather-on, gather-end}
@@ -25,12 +26,12 @@ use Rattle.listing.proofs.put_events.Statement.{statement}
 use Rattle.listing.proofs.put_events.Tie as tie
 
 abbrev Inv-loop : tie.InvT-loop
-Inv-loop buffer₀ comment written₀ st₀ note₀ place₀ line₀ buffer written st note place line =
-    Along comment st note × Carried comment st place line × (length buffer ≡ length buffer₀)
-    × (gathered (length buffer₀) (waiting written buffer) (linesFrom comment st) ≡ gathered (length buffer₀) (waiting written₀ buffer₀) (eventLines comment))
+Inv-loop reading buffer₀ comment written₀ st₀ note₀ place₀ line₀ buffer written st note place line =
+    Along (named reading) comment st note × Carried comment st place line × (length buffer ≡ length buffer₀)
+    × (gathered (length buffer₀) (waiting written buffer) (linesFrom (named reading) comment st) ≡ gathered (length buffer₀) (waiting written₀ buffer₀) (eventLines (named reading) comment))
 
 abbrev μ-loop : tie.MeasureT-loop
-μ-loop buffer₀ comment written₀ st₀ note₀ place₀ line₀ buffer written st note place line = left st
+μ-loop reading buffer₀ comment written₀ st₀ note₀ place₀ line₀ buffer written st note place line = left st
 
 new-requires : tie.Need-new-requires Inv-loop μ-loop
 new-requires c κs = tt
@@ -39,8 +40,10 @@ nothing-requires : tie.Need-nothing-requires Inv-loop μ-loop
 nothing-requires c κs = tt
 
 loop-holds : tie.Need-loop-holds Inv-loop μ-loop
-unfolding eventsOf
-loop-holds c = rw (c .before .new .ensures) (along-starts _ _ _ (c .nothing .result) (c .nothing .ensures .1), carried-starts _ _, refl, refl)
+loop-holds c =
+    let a = c .before .before .before .before .args in
+    rw (c .before .new .ensures, ← events-start (a .reading) (a .comment .now) 0 (length (a .comment .now)))
+    (along-starts _ _ _ _ (c .nothing .result) (c .nothing .ensures .1), carried-starts _ _ _, refl, refl)
 
 next-noted-requires : tie.Need-next-noted-requires Inv-loop μ-loop
 next-noted-requires c κs = tt
@@ -56,8 +59,8 @@ returns c good =
     let k = c .before .before in
     let l = k .before .loop in
     let a = c .before .before .before .before .before .before .before .before .args in
-    gather-end (length (a .buffer .now)) (waiting (l .written) (l .buffer)) (linesFrom (a .comment .now) (l .st))
-    (lines-end (a .comment .now) (l .st) (along-end (l .inv .0) (k .next-noted .ensures) (c .match .keys2)))
+    gather-end (length (a .buffer .now)) (waiting (l .written) (l .buffer)) (linesFrom (named (a .reading)) (a .comment .now) (l .st))
+    (lines-end (named (a .reading)) (a .comment .now) (l .st) (along-end (l .inv .0) (k .next-noted .ensures) (c .match .keys2)))
     (l .inv .3)
 
 placed-requires : tie.Need-placed-requires Inv-loop μ-loop
@@ -86,7 +89,7 @@ module _ (c : tie.After-lines-between Inv-loop μ-loop) where
   abbrev after : ParserState
   after = event .next .given .0 .0
 
-  given-event : seen rust (entry .args .comment .now) (head .loop .st) ≡ some (item, after)
+  given-event : seen (named (entry .args .reading)) (entry .args .comment .now) (head .loop .st) ≡ some (item, after)
   given-event = along-event (head .loop .inv .0) (call .next-noted .ensures) (event .next .given .1)
 
   at-place : c .before .placed .result .place ≡ placedOf item .place
@@ -95,13 +98,13 @@ module _ (c : tie.After-lines-between Inv-loop μ-loop) where
   number : head .loop .line + c .lines-between .result ≡ lineOf (entry .args .comment .now) (placedOf item .place)
   number =
       let l = head .loop in
-      carried-number (entry .args .comment .now) (l .st) (l .place) (l .line) (l .inv .1) (l .inv .0 .reached) item after given-event _ at-place (c .lines-between .result) (c .lines-between .ensures)
+      carried-number (named (entry .args .reading)) (entry .args .comment .now) (l .st) (l .place) (l .line) (l .inv .1) (l .inv .0 .reached) item after given-event _ at-place (c .lines-between .result) (c .lines-between .ensures)
       ∙ ap (lineOf (entry .args .comment .now)) at-place
 
   carried : Carried (entry .args .comment .now) after (c .before .placed .result .place) (head .loop .line + c .lines-between .result)
   carried =
       let l = head .loop in
-      carried-on (entry .args .comment .now) (l .st) (l .place) (l .line) (l .inv .1) (l .inv .0 .reached) item after given-event _ at-place (c .lines-between .result) (c .lines-between .ensures)
+      carried-on (named (entry .args .reading)) (entry .args .comment .now) (l .st) (l .place) (l .line) (l .inv .1) (l .inv .0 .reached) item after given-event _ at-place (c .lines-between .result) (c .lines-between .ensures)
 
 add-number : tie.Need-add-number Inv-loop μ-loop
 add-number c =
@@ -126,8 +129,8 @@ loop-again c =
       along-on (l .inv .0) says e,
       carried k,
       omega arith,
-      gather-on (length (a .buffer .now)) (waiting (l .written) (l .buffer)) (eventLine (item k) (lineOf (a .comment .now) (placedOf (item k) .place))) (linesFrom (a .comment .now) (after k))
-          (lines-on (a .comment .now) (l .st) (item k) (after k) (given-event k))
+      gather-on (length (a .buffer .now)) (waiting (l .written) (l .buffer)) (eventLine (item k) (lineOf (a .comment .now) (placedOf (item k) .place))) (linesFrom (named (a .reading)) (a .comment .now) (after k))
+          (lines-on (named (a .reading)) (a .comment .now) (l .st) (item k) (after k) (given-event k))
           (rw (number k, l .inv .2) at (c .before .before .before .put-line .ensures)) (l .inv .3),
     )
 

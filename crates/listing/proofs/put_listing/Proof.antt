@@ -2,6 +2,7 @@
 -- Assumes nothing.
 use mathlib.Core.List.{[]}
 use lib.ListN.{length}
+use Rattle.byte_rules.specs.Reading.{named}
 use Rattle.programs.proofs.Gathering.{gather-both}
 use Rattle.listing.specs.Listing.{header, eventLines, listing}
 use borrow.Author.Needs.{needs}
@@ -28,7 +29,7 @@ unfolding listing
 returns c good =
     let a = c .before .before .before .before .before .before .before .before .before .before .before .before .args in
     let head = rw (c .before .before .before .before .before .before .before .before .before .new .ensures) at (c .before .before .before .before .before .before .text .ensures) in
-    gather-both (length (a .buffer .now)) [] header (eventLines (a .comment .now)) head (rw (c .before .before .before .before .before .buffer .given) at (c .before .before .put-events .ensures good))
+    gather-both (length (a .buffer .now)) [] header (eventLines (named (a .reading)) (a .comment .now)) head (rw (c .before .before .before .before .before .buffer .given) at (c .before .before .put-events .ensures good))
 
 pub put-listing-spec : {M : Type 1} → statement M
 put-listing-spec =

@@ -17,14 +17,14 @@ enum-told-2 c = search needs
 tag-step-requires : tie.Need-tag-step-requires
 tag-step-requires c κs = search needs
 
-enum-told-3 : tie.Need-enum-told-3
-enum-told-3 c = search needs
+enum-known-rule : tie.Need-enum-known-rule
+enum-known-rule c = search needs
 
 subscript-step-requires : tie.Need-subscript-step-requires
 subscript-step-requires c κs = search needs
 
-enum-told-4 : tie.Need-enum-told-4
-enum-told-4 c = search needs
+enum-known-rule-2 : tie.Need-enum-known-rule-2
+enum-known-rule-2 c = search needs
 
 italic-step-requires : tie.Need-italic-step-requires
 italic-step-requires c κs = search needs
@@ -53,9 +53,9 @@ step-by-spec =
     blanks-step-requires
     enum-told-2
     tag-step-requires
-    enum-told-3
+    enum-known-rule
     subscript-step-requires
-    enum-told-4
+    enum-known-rule-2
     italic-step-requires
     returns
     returns-2

@@ -3,6 +3,7 @@
 use borrow.Author.Needs.{needs}
 use mathlib.Core.Path.{_≡_, sym, _∙_}
 use mathlib.Core.List.{[]}
+use Rattle.byte_rules.specs.Reading.{named}
 use lib.ListN.{length}
 use Rattle.verify_markup.specs.Check.{lent, table, tables, checkAnswer, checkLeft}
 use Rattle.verify_markup.proofs.Tags.{without-is-empty}
@@ -27,10 +28,10 @@ returns c =
     let k = c .before .before in
     let a = k .before .before .before .before .before .before .before .before .before .before .args in
     let empty = tables (a .sb .now) (a .se .now) (a .lb .now) (a .le .now) (lent (table [] [])) in
-    let answer : _ ≡ checkAnswer (a .buf .now) (a .start) (a .end) empty (length (a .out .now)) = k .check .ensures .0 in
-    let left : _ ≡ checkLeft (a .buf .now) (a .start) (a .end) empty (a .out .now) = k .check .ensures .1 in
+    let answer : _ ≡ checkAnswer (named (a .reading)) (a .buf .now) (a .start) (a .end) empty (length (a .out .now)) = k .check .ensures .0 in
+    let left : _ ≡ checkLeft (named (a .reading)) (a .buf .now) (a .start) (a .end) empty (a .out .now) = k .check .ensures .1 in
     let e = without-is-empty (a .sb .now) (a .se .now) (a .lb .now) (a .le .now) in
-    (answer ∙ sym (e .answer (a .buf .now) (a .start) (a .end) (length (a .out .now))), left ∙ sym (e .left (a .buf .now) (a .start) (a .end) (a .out .now)))
+    (answer ∙ sym (e .answer (named (a .reading)) (a .buf .now) (a .start) (a .end) (length (a .out .now))), left ∙ sym (e .left (named (a .reading)) (a .buf .now) (a .start) (a .end) (a .out .now)))
 
 pub verify-markup-without-bibliography-spec : {M : Type 1} → statement M
 verify-markup-without-bibliography-spec = tie.close (tie.spec slice-aggregate-check slice-aggregate-check-2 check-requires same-length returns)

@@ -7,7 +7,7 @@ use lib.ListN.{length}
 use native.Mathlib.Omega.{arith}
 use borrow.Author.Needs.{needs}
 use Rattle.scans.specs.Scan.{scan}
-use Rattle.byte_rules.specs.Reading.{rust}
+use Rattle.byte_rules.specs.Reading.{named}
 use Rattle.scans.specs.Notes.{Holds}
 use Rattle.scans.specs.declared.Step.{Step}
 use Rattle.scans.proofs.Laws.{scan-end, scan-one, scan-two, scan-stop}
@@ -20,7 +20,7 @@ use Rattle.comment_parser.proofs.pass.pass.Tie as tie
 
 abbrev Inv-loop : tie.InvT-loop
 Inv-loop text st from p₀ n₀ p n =
-    (from ≤ p) × (Holds text n₀ → (scan (passStep rust text st from) (length text) from ≡ scan (passStep rust text st from) (length text) p) × Holds text n)
+    (from ≤ p) × (Holds text n₀ → (scan (passStep (named (st .reading)) text st from) (length text) from ≡ scan (passStep (named (st .reading)) text st from) (length text) p) × Holds text n)
 
 abbrev μ-loop : tie.MeasureT-loop
 μ-loop text st from p₀ n₀ p n = length text - p
@@ -37,7 +37,7 @@ moved-requires c κs = search needs
 returns : tie.Need-returns Inv-loop μ-loop
 returns c = λ h.
     let here = c .before .before .before .loop .inv .1 h in
-    let ends = here .0 ∙ c .before .before .skip .ensures .over _ ∙ scan-end _ _ _ (omega arith) in
+    let ends = here .0 ∙ c .before .before .skip .ensures .over _ _ ∙ scan-end _ _ _ (omega arith) in
     record { is = rw (c .moved .ensures) (sym (ran-out _ _ _ _ ends)); holds = here .1 }
 
 pass-act-requires : tie.Need-pass-act-requires Inv-loop μ-loop
@@ -52,15 +52,15 @@ module _ (c : tie.After-pass-act Inv-loop μ-loop) where
   text = entry .args .text .now
 
   abbrev step : ℕ → Step
-  step = passStep rust text (entry .args .st) (entry .args .from)
+  step = passStep (named (entry .args .st .reading)) text (entry .args .st) (entry .args .from)
 
   abbrev here : ℕ
   here = c .before .before .skip .result
 
   comes : Holds text (entry .args .note) → scan step (length text) (entry .args .from) ≡ scan step (length text) here
-  comes h = c .before .before .before .loop .inv .1 h .0 ∙ c .before .before .skip .ensures .over _
+  comes h = c .before .before .before .loop .inv .1 h .0 ∙ c .before .before .skip .ensures .over _ _
 
-  says : Holds text (entry .args .note) → Acts text (passAct rust text (entry .args .st) (entry .args .from) here) (c .pass-act .result)
+  says : Holds text (entry .args .note) → Acts text (passAct (named (entry .args .st .reading)) text (entry .args .st) (entry .args .from) here) (c .pass-act .result)
   says h = c .pass-act .ensures (c .before .before .before .loop .inv .1 h .1)
 
   onward : entry .args .from ≤ here

@@ -46,7 +46,7 @@ use denote.Triple.Entry.{onEntry}
 use denote.Triple.Spec.{Meets, tripleOf}
 use denote.Triple.Table.{entered, cited}
 use denote.Triple.Walked.{says, Stays, stay-ref, walkOf, goes-ref, Walks, ends-at, walked, walk-meets}
-use Rattle.byte_rules.specs.Reading.{rust}
+use Rattle.byte_rules.specs.Reading.{named as read-as}
 use Rattle.comment_parser.specs.Next.{nextOf}
 use Rattle.comment_parser.specs.declared.ParserState.{ParserState}
 use Rattle.comment_view.specs.View.{gives}
@@ -120,7 +120,7 @@ module _ {M : Type 1} (𝓤 : URA M) (H : Heap 𝓤) (A : Atoms 𝓤) (W : Given
 
   -- what `advance` says: of its result, and of the state at exit
   abbrev Said : NextItem → ParserState → Type 0
-  Said r st = gives r st ≡ nextOf rust (now (h .buf)) (h .state)
+  Said r st = gives r st ≡ nextOf (read-as (h .state .reading)) (now (h .buf)) (h .state)
 
   abbrev Post : Val → SProp 𝓤
   Post = walkOf 𝓤 H A next-item.ended stayed (next-item.clauses 𝓤 H A at-mem run) .post (((κ, (κ′, tt)), (q, (q′, tt)), bounds, x, at), tt)

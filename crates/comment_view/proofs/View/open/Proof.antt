@@ -41,6 +41,9 @@ use denote.Triple.Spec.{Meets, tripleOf}
 use denote.Triple.Table.{entered, cited}
 use denote.Triple.Walked.{says, Stays, stay-none, stay-none-slice, walkOf, AllGo, goes-none, goes-none-slice, Walks, ends-at, walked, walk-meets}
 use denote.Exit.{yes}
+use Rattle.byte_rules.specs.declared.reading.Reading.{Reading as Name}
+use Rattle.byte_rules.proofs.reading.Reading as Rd
+use Rattle.byte_rules.proofs.reading.Reading.Laws as Rd′
 use Rattle.records.specs.Answer.{checkedAnswer, spanRefusal}
 use Rattle.records.specs.declared.Checked.{Checked}
 use Rattle.records.proofs.Checked as K
@@ -75,7 +78,7 @@ abbrev slice : Ty
 slice = sliceTy (tyRef (named 0) imm (tyInt w8))
 
 abbrev stayed : Stays (opens.ended .signature .params) (opens.ended .kept)
-stayed = (stay-none-slice (0 ∷ []) tt (plain (λ _. u8)) yes, (stay-none (λ _. usize) yes, (stay-none (λ _. usize) yes, tt)))
+stayed = (stay-none (λ _. Rd.the-row) yes, (stay-none-slice (0 ∷ []) tt (plain (λ _. u8)) yes, (stay-none (λ _. usize) yes, (stay-none (λ _. usize) yes, tt))))
 
 module _ {M : Type 1} (𝓤 : URA M) (H : Heap 𝓤) (A : Atoms 𝓤) (mem : Memory → SProp 𝓤) (run : Routine → Fun 𝓤) where
   -- the contracts that the proof cites
@@ -85,7 +88,11 @@ module _ {M : Type 1} (𝓤 : URA M) (H : Heap 𝓤) (A : Atoms 𝓤) (mem : Mem
   abbrev New : Contract 𝓤
   New = tripleOf 𝓤 H A new.signature (new.spec 𝓤 H A mem run)
 
-module _ {M : Type 1} (𝓤 : URA M) (H : Heap 𝓤) (A : Atoms 𝓤) (W : Given 𝓤 H A) (mem : Memory → SProp 𝓤) (run : Routine → Fun 𝓤) (κ : Lft) (q : Share) (s : RefT (List ℕ)) (a z : ℕ) (a-fits : a < 2 ^ 64) (z-fits : z < 2 ^ 64) where
+module _ {M : Type 1} (𝓤 : URA M) (H : Heap 𝓤) (A : Atoms 𝓤) (W : Given 𝓤 H A) (mem : Memory → SProp 𝓤) (run : Routine → Fun 𝓤) (κ : Lft) (q : Share) (ρ : Name) (s : RefT (List ℕ)) (a z : ℕ) (ρ-is : Is Rd.the-row ρ (EL.val Rd.the-type Rd′.the-laws ρ ∷ [])) (a-fits : a < 2 ^ 64) (z-fits : z < 2 ^ 64) where
+  -- the machine value of the reading
+  abbrev r-val : Val
+  r-val = EL.val Rd.the-type Rd′.the-laws ρ
+
   -- the machine value of the buffer, and its length
   abbrev v : Val
   v = sliceVal (s .ptr) (length (s .now))
@@ -111,10 +118,10 @@ module _ {M : Type 1} (𝓤 : URA M) (H : Heap 𝓤) (A : Atoms 𝓤) (W : Given
   mach r st = LL.val (O.the-type α) (O′.the-laws α) (beside r st)
 
   abbrev at : Vals opens.signature (κ, tt)
-  at = (v ∷ [], (vint w64 a ∷ [], (vint w64 z ∷ [], tt)))
+  at = (r-val ∷ [], (v ∷ [], (vint w64 a ∷ [], (vint w64 z ∷ [], tt))))
 
   abbrev bound : walkOf 𝓤 H A opens.ended stayed (opens.clauses 𝓤 H A mem run) .Ghost
-  bound = (((κ, tt), (q, tt), tt, (s, (a, (z, tt))), at), tt)
+  bound = (((κ, tt), (q, tt), tt, (ρ, (s, (a, (z, tt)))), at), tt)
 
   abbrev Post : Val → SProp 𝓤
   Post = walkOf 𝓤 H A opens.ended stayed (opens.clauses 𝓤 H A mem run) .post bound
@@ -138,60 +145,61 @@ module _ {M : Type 1} (𝓤 : URA M) (H : Heap 𝓤) (A : Atoms 𝓤) (W : Given
 
   -- ---- the call of `ParserState::new`
   abbrev to-new : New 𝓤 H A mem run .Ghost
-  to-new = ((tt, tt, tt, (a, (z, tt)), (vint w64 a ∷ [], (vint w64 z ∷ [], tt))), tt)
+  to-new = ((tt, tt, tt, (ρ, (a, (z, tt))), (r-val ∷ [], (vint w64 a ∷ [], (vint w64 z ∷ [], tt)))), tt)
 
   goes-new : ent 𝓤 (emp 𝓤) (New 𝓤 H A mem run .pre to-new)
-  goes-new = qed W [] ∵ nothing ! $ owned ! usize (Is usize) (uint-makes 𝓤 H A W w64) z _ (refl, z-fits) $ fjoin ! $ owned ! usize (Is usize) (uint-makes 𝓤 H A W w64) a _ (refl, a-fits) $ fjoin ! $ nothing ! $ join ! $ frame ! $ done !
+  goes-new = qed W [] ∵ nothing ! $ owned ! usize (Is usize) (uint-makes 𝓤 H A W w64) z _ (refl, z-fits) $ fjoin ! $ owned ! usize (Is usize) (uint-makes 𝓤 H A W w64) a _ (refl, a-fits) $ fjoin ! $
+      owned ! Rd.the-row (Is Rd.the-row) (EL.makes Rd.the-type Rd′.the-plain 𝓤 H A) ρ _ ρ-is $ fjoin ! $ nothing ! $ join ! $ frame ! $ done !
 
-  new-said : (st : ParserState) → ent 𝓤 (ensured 𝓤 H A new.ended (new.clauses 𝓤 H A mem run) tt (a, (z, tt)) tt st) (fact 𝓤 (st ≡ fresh a z))
-  new-said st = exE 𝓤 _ (λ ws. snd∗ 𝓤 (sem 𝓤 H A (lasts new.ended tt (a, (z, tt)) ws)) (fact 𝓤 (st ≡ fresh a z)))
+  new-said : (st : ParserState) → ent 𝓤 (ensured 𝓤 H A new.ended (new.clauses 𝓤 H A mem run) tt (ρ, (a, (z, tt))) tt st) (fact 𝓤 (st ≡ fresh ρ a z))
+  new-said st = exE 𝓤 _ (λ ws. snd∗ 𝓤 (sem 𝓤 H A (lasts new.ended tt (ρ, (a, (z, tt))) ws)) (fact 𝓤 (st ≡ fresh ρ a z)))
 
-  exits : (r : Checked) (st : ParserState) → Checks r → st ≡ fresh a z → Is K.the-row r (check-val r ∷ []) → Is T.the-row st (val st ∷ []) → ent 𝓤 (onEntry 𝓤 H A opens.signature (κ, tt) (q, tt) (s, (a, (z, tt))) at) (Post (mach r st))
+  exits : (r : Checked) (st : ParserState) → Checks r → st ≡ fresh ρ a z → Is K.the-row r (check-val r ∷ []) → Is T.the-row st (val st ∷ []) → ent 𝓤 (onEntry 𝓤 H A opens.signature (κ, tt) (q, tt) (ρ, (s, (a, (z, tt)))) at) (Post (mach r st))
   exits r st e e′ is is′ =
-      qed W ((‵ (flft κ q) ⊛ ‵ ftrue) ∷ ‵ (owns (ShrSlice (named 0) κ u8 ∷ usize ∷ usize ∷ []) (s, (a, (z, tt))) at) ∷ []) ∵
-      suffices ! _ (ends-at 𝓤 H A opens.ended stayed (opens.clauses 𝓤 H A mem run) W bound (mach r st) (beside r st) (tt, (tt, (tt, tt))) (tt, (tt, (tt, tt)))) $ says ! (opened-as r _ e, ap made e′) $
-      frame ! $ fsplit ! $ use1 W (‵ Own ⊛ ‵ Own) (shr-slice-copy 𝓤 H A W (named 0) κ u8 .twice s (v ∷ [])) $ split ! $ move ! (0 ∷ 2 ∷ []) $ fjoin ! $ frame ! $
+      qed W ((‵ (flft κ q) ⊛ ‵ ftrue) ∷ ‵ (owns (Rd.the-row ∷ ShrSlice (named 0) κ u8 ∷ usize ∷ usize ∷ []) (ρ, (s, (a, (z, tt)))) at) ∷ []) ∵
+      suffices ! _ (ends-at 𝓤 H A opens.ended stayed (opens.clauses 𝓤 H A mem run) W bound (mach r st) (beside r st) (tt, (tt, (tt, (tt, tt)))) (tt, (tt, (tt, (tt, tt))))) $ says ! (opened-as r _ e, ap made e′) $
+      frame ! $ fsplit ! $ move ! (1 ∷ []) $ fsplit ! $ use1 W (‵ Own ⊛ ‵ Own) (shr-slice-copy 𝓤 H A W (named 0) κ u8 .twice s (v ∷ [])) $ split ! $ move ! (0 ∷ 2 ∷ []) $ fjoin ! $ move ! (2 ∷ 0 ∷ []) $ fjoin ! $ frame ! $
       -- [what buf owns]: with what the state owns, it is what the view owns; and with what the check owns, what the struct owns
       nothing ! $ owned ! T.the-row (Is T.the-row) (LL.makes T.the-type T′.the-plain 𝓤 H A) st _ is′ $ fjoin ! $ move ! (1 ∷ 0 ∷ []) $ fjoin ! $
       use1 W (‵ (Vw.the-row α .own (made st) (LL.val (Vw.the-type α) (Vw′.the-laws α) (made st) ∷ []))) (own-shut 𝓤 H A W (Vw.the-type α) (Vw′.the-laws α) (s, (st, tt))) $
       nothing ! $ move ! (1 ∷ 0 ∷ []) $ fjoin ! $ owned ! K.the-row (Is K.the-row) (EL.makes K.the-type K′.the-plain 𝓤 H A) r _ is $ fjoin ! $ by ! (own-shut 𝓤 H A W (O.the-type α) (O′.the-laws α) (r, (made st, tt)))
 
   module _ (C : Calls 𝓤 H) (Λ : Loops 𝓤 H) (fm : FmC 𝓤 H (W .laws) C) (known-check : Triple 𝓤 (C #records·check-span) (Check 𝓤 H A mem run)) (known-new : Triple 𝓤 (C #comment-parser·new) (New 𝓤 H A mem run)) where
-    walk : Is (ShrSlice (named 0) κ u8) s (v ∷ []) → Holds (hasTy slice v) × WT v → ent 𝓤 (onEntry 𝓤 H A opens.signature (κ, tt) (q, tt) (s, (a, (z, tt))) at) (WpFn 𝓤 H C Λ code.function (v ∷ vint w64 a ∷ vint w64 z ∷ []) Post)
+    walk : Is (ShrSlice (named 0) κ u8) s (v ∷ []) → Holds (hasTy slice v) × WT v → ent 𝓤 (onEntry 𝓤 H A opens.signature (κ, tt) (q, tt) (ρ, (s, (a, (z, tt)))) at) (WpFn 𝓤 H C Λ code.function (r-val ∷ v ∷ vint w64 a ∷ vint w64 z ∷ []) Post)
     walk p wt =
-        qed W (raw (onEntry 𝓤 H A opens.signature (κ, tt) (q, tt) (s, (a, (z, tt))) at) ∷ []) ∵ enter ! C Λ code.function (v ∷ vint w64 a ∷ vint w64 z ∷ []) _ $
-        alloc1 ! (λ l₀. alloc1 ! (λ l₁. alloc1 ! (λ l₂. alloc1 ! (λ l₃. alloc1 ! (λ l₄. alloc1 ! (λ l₅. alloc1 ! (λ l₆. alloc1 ! (λ l₇. alloc0 ! $ params1 ! $
-        pass1 ! (init ! 12 refl wt) $ pass1 ! (init ! 10 refl (tt, record { fits = a-fits })) $ pass1 ! (init ! 8 refl (tt, record { fits = z-fits })) $ pass0 ! $
+        qed W (raw (onEntry 𝓤 H A opens.signature (κ, tt) (q, tt) (ρ, (s, (a, (z, tt)))) at) ∷ []) ∵ enter ! C Λ code.function (r-val ∷ v ∷ vint w64 a ∷ vint w64 z ∷ []) _ $
+        alloc1 ! (λ l₀. alloc1 ! (λ l₁. alloc1 ! (λ l₂. alloc1 ! (λ l₃. alloc1 ! (λ l₄. alloc1 ! (λ l₅. alloc1 ! (λ l₆. alloc1 ! (λ l₇. alloc1 ! (λ l₈. alloc0 ! $ params1 ! $
+        pass1 ! (init ! 14 refl (EL.lawful Rd.the-type Rd′.the-laws 𝓤 H A W tt .typed ρ _ ρ-is .0)) $ pass1 ! (init ! 12 refl wt) $ pass1 ! (init ! 10 refl (tt, record { fits = a-fits })) $ pass1 ! (init ! 8 refl (tt, record { fits = z-fits })) $ pass0 ! $
         assigns ! (of-opd ! (load ! (from ! (fld ! refl (stop !))) (look-in ! 12 (sub ! 1 refl (whole !))))) (from ! (stop !)) (init ! 2 refl (tt, wt .1 .1 .0)) $
         use0 W (raw (Check 𝓤 H A mem run .pre to-check)) (goes-check (wt .1 .1 .0 .fits)) $
-        -- [what `check_span` asks; _7; …; _6; …; _5; …; _4; …; _3; …; _2; …; _1; …; room for _0; …; what was had at entry]
+        -- [what `check_span` asks; _8; …; _7; …; _6; …; _5; …; _4; …; _3; …; _2; …; _1; …; room for _0; …; what was had at entry]
         calls-at ! fm (Check 𝓤 H A mem run) known-check to-check (and-then ! (load ! (from ! (stop !)) (look ! 3 refl)) (and-then ! (load ! (from ! (stop !)) (look ! 11 refl)) (and-then ! (load ! (from ! (stop !)) (look ! 9 refl)) (no-more !)))) (λ u.
         use1 W (later (some (λ (r : Checked). (‵ ftrue ⊛ ‵ (K.the-row .own r (u ∷ []))) ⊛ raw (ensured 𝓤 H A check.ended (check.clauses 𝓤 H A mem run) tt (n, (a, (z, tt))) tt r)))) (id⊢ 𝓤 _) $ await ! tt $ pick ! (λ r.
         split ! $ move ! (1 ∷ []) $ use1 W (raw (fact 𝓤 (Checks r))) (check-said r) $ heard ! (Checks r) (λ e. split ! $ drop ! $
         peeks ! K.the-row (Is K.the-row) (shows 𝓤 H A K.the-row) r (u ∷ []) (λ is.
-        land ! (from ! (stop !)) (init ! 7 refl (EL.lawful K.the-type K′.the-laws 𝓤 H A W tt .typed r _ is .0)) $ rewrite ! 7 (λ (w : Val). ‵ (fat fullShare K′.mir l₄ 0 w)) (ap only (EL.tells K.the-type K′.the-laws r (u ∷ []) is)) refl $ drop ! $
+        land ! (from ! (stop !)) (init ! 7 refl (EL.lawful K.the-type K′.the-laws 𝓤 H A W tt .typed r _ is .0)) $ rewrite ! 7 (λ (w : Val). ‵ (fat fullShare K′.mir l₅ 0 w)) (ap only (EL.tells K.the-type K′.the-laws r (u ∷ []) is)) refl $ drop ! $
         use0 W (raw (New 𝓤 H A mem run .pre to-new)) goes-new $
-        -- [what `new` asks; _7; …; _6; …; _5; …; _4; …; _3; …; _2; …; _1; …; room for _0; …; what was had at entry]
-        calls-at ! fm (New 𝓤 H A mem run) known-new to-new (and-then ! (load ! (from ! (stop !)) (look ! 11 refl)) (and-then ! (load ! (from ! (stop !)) (look ! 9 refl)) (no-more !))) (λ u′.
-        use1 W (later (some (λ (st : ParserState). (‵ ftrue ⊛ ‵ (T.the-row .own st (u′ ∷ []))) ⊛ raw (ensured 𝓤 H A new.ended (new.clauses 𝓤 H A mem run) tt (a, (z, tt)) tt st)))) (id⊢ 𝓤 _) $ await ! tt $ pick ! (λ st.
-        split ! $ move ! (1 ∷ []) $ use1 W (raw (fact 𝓤 (st ≡ fresh a z))) (new-said st) $ heard ! (st ≡ fresh a z) (λ e′. split ! $ drop ! $
+        -- [what `new` asks; _8; …; _7; …; _6; …; _5; …; _4; …; _3; …; _2; …; _1; …; room for _0; …; what was had at entry]
+        calls-at ! fm (New 𝓤 H A mem run) known-new to-new (and-then ! (load ! (from ! (stop !)) (look ! 15 refl)) (and-then ! (load ! (from ! (stop !)) (look ! 11 refl)) (and-then ! (load ! (from ! (stop !)) (look ! 9 refl)) (no-more !)))) (λ u′.
+        use1 W (later (some (λ (st : ParserState). (‵ ftrue ⊛ ‵ (T.the-row .own st (u′ ∷ []))) ⊛ raw (ensured 𝓤 H A new.ended (new.clauses 𝓤 H A mem run) tt (ρ, (a, (z, tt))) tt st)))) (id⊢ 𝓤 _) $ await ! tt $ pick ! (λ st.
+        split ! $ move ! (1 ∷ []) $ use1 W (raw (fact 𝓤 (st ≡ fresh ρ a z))) (new-said st) $ heard ! (st ≡ fresh ρ a z) (λ e′. split ! $ drop ! $
         peeks ! T.the-row (Is T.the-row) (shows 𝓤 H A T.the-row) st (u′ ∷ []) (λ is′.
-        land ! (from ! (stop !)) (init ! 5 refl (LL.lawful T.the-type T′.the-laws 𝓤 H A W .typed st _ is′ .0)) $ rewrite ! 5 (λ (w : Val). ‵ (fat fullShare T′.mir l₅ 0 w)) (ap only (LL.tells T.the-type T′.the-laws st (u′ ∷ []) is′)) refl $ drop ! $
-        -- [room for _7; …; _6; …; _5; …; _4; …; _3; …; _2; …; _1; …; room for _0; …; what was had at entry]
+        land ! (from ! (stop !)) (init ! 5 refl (LL.lawful T.the-type T′.the-laws 𝓤 H A W .typed st _ is′ .0)) $ rewrite ! 5 (λ (w : Val). ‵ (fat fullShare T′.mir l₆ 0 w)) (ap only (LL.tells T.the-type T′.the-laws st (u′ ∷ []) is′)) refl $ drop ! $
+        -- [room for _8; …; _7; …; _6; …; _5; …; _4; …; _3; …; _2; …; _1; …; room for _0; …; what was had at entry]
         assigns ! (agg ! (and-then ! (load ! (from ! (stop !)) (look ! 12 refl)) (and-then ! (load ! (from ! (stop !)) (look ! 4 refl)) (no-more !)))) (from ! (stop !)) (init ! 0 refl (LL.lawful (Vw.the-type αᵉ) (Vw′.the-laws αᵉ) 𝓤 H A W .typed (made st) _ (LL.owes (Vw.the-type αᵉ) (Vw′.the-laws αᵉ) (made st) (p, (again-state st u′ is′, tt))) .0)) $
-        assigns ! (agg ! (and-then ! (load ! (from ! (stop !)) (look ! 6 refl)) (and-then ! (load ! (from ! (stop !)) (look ! 0 refl)) (no-more !)))) (from ! (stop !)) (init ! 14 refl (LL.lawful (O.the-type α) (O′.the-laws α) 𝓤 H A W .typed (beside r st) _ (LL.owes (O.the-type α) (O′.the-laws α) (beside r st) (again-check r u is, (LL.owes (Vw.the-type α) (Vw′.the-laws α) (made st) (p, (again-state st u′ is′, tt)), tt))) .0)) $
-        returns ! (look ! 14 refl) $ forget ! 0 refl $ forget ! 2 refl $ forget ! 4 refl $ forget ! 6 refl $ forget ! 8 refl $ forget ! 10 refl $ forget ! 12 refl $ forget ! 14 refl $
-        move ! (14 ∷ 15 ∷ []) $ free1 ! $ move ! (12 ∷ 13 ∷ []) $ free1 ! $ move ! (10 ∷ 11 ∷ []) $ free1 ! $ move ! (8 ∷ 9 ∷ []) $ free1 ! $ move ! (6 ∷ 7 ∷ []) $ free1 ! $ move ! (4 ∷ 5 ∷ []) $ free1 ! $ move ! (2 ∷ 3 ∷ []) $ free1 ! $ move ! (0 ∷ 1 ∷ []) $ free1 ! $ free0 ! $
-        by ! (exits r st e e′ (again-check r u is) (again-state st u′ is′))))))))))))))))))
+        assigns ! (agg ! (and-then ! (load ! (from ! (stop !)) (look ! 6 refl)) (and-then ! (load ! (from ! (stop !)) (look ! 0 refl)) (no-more !)))) (from ! (stop !)) (init ! 16 refl (LL.lawful (O.the-type α) (O′.the-laws α) 𝓤 H A W .typed (beside r st) _ (LL.owes (O.the-type α) (O′.the-laws α) (beside r st) (again-check r u is, (LL.owes (Vw.the-type α) (Vw′.the-laws α) (made st) (p, (again-state st u′ is′, tt)), tt))) .0)) $
+        returns ! (look ! 16 refl) $ forget ! 0 refl $ forget ! 2 refl $ forget ! 4 refl $ forget ! 6 refl $ forget ! 8 refl $ forget ! 10 refl $ forget ! 12 refl $ forget ! 14 refl $ forget ! 16 refl $
+        move ! (16 ∷ 17 ∷ []) $ free1 ! $ move ! (14 ∷ 15 ∷ []) $ free1 ! $ move ! (12 ∷ 13 ∷ []) $ free1 ! $ move ! (10 ∷ 11 ∷ []) $ free1 ! $ move ! (8 ∷ 9 ∷ []) $ free1 ! $ move ! (6 ∷ 7 ∷ []) $ free1 ! $ move ! (4 ∷ 5 ∷ []) $ free1 ! $ move ! (2 ∷ 3 ∷ []) $ free1 ! $ move ! (0 ∷ 1 ∷ []) $ free1 ! $ free0 ! $
+        by ! (exits r st e e′ (again-check r u is) (again-state st u′ is′)))))))))))))))))))
 
 module _ {M : Type 1} (𝓤 : URA M) (H : Heap 𝓤) (A : Atoms 𝓤) (W : Given 𝓤 H A) (mem : Memory → SProp 𝓤) (run : Routine → Fun 𝓤) where
   open-walks : (C : Calls 𝓤 H) (Λ : Loops 𝓤 H) → FmC 𝓤 H (W .laws) C → Triple 𝓤 (C #records·check-span) (Check 𝓤 H A mem run) → Triple 𝓤 (C #comment-parser·new) (New 𝓤 H A mem run)
       → Walks 𝓤 H A opens.ended stayed (WpFn 𝓤 H C Λ code.function) (opens.clauses 𝓤 H A mem run)
-  open-walks C Λ fm known-check known-new = walked 𝓤 H A opens.ended stayed (opens.clauses 𝓤 H A mem run) (WpFn 𝓤 H C Λ code.function) (λ κs. (slice-vals, (uint-vals w64, (uint-vals w64, tt)))) (λ κs. (shr-slice-tells (named 0) (κs .0) u8, (uint-tells w64, (uint-tells w64, tt))))
-      (λ κs qs bounds a g are. via 𝓤 _ (fst∗ 𝓤 _ (emp 𝓤)) (walk 𝓤 H A W mem run (κs .0) (qs .0) (a .0) (a .1 .0) (a .1 .1 .0) (are .1 .0 .1) (are .1 .1 .0 .1) C Λ fm known-check known-new (are .0) (shr-slice-lawful 𝓤 H A W (named 0) (κs .0) u8 .typed (a .0) _ (are .0) .0)))
+  open-walks C Λ fm known-check known-new = walked 𝓤 H A opens.ended stayed (opens.clauses 𝓤 H A mem run) (WpFn 𝓤 H C Λ code.function) (λ κs. (EL.vals Rd.the-type Rd′.the-laws, (slice-vals, (uint-vals w64, (uint-vals w64, tt))))) (λ κs. (EL.tells Rd.the-type Rd′.the-laws, (shr-slice-tells (named 0) (κs .0) u8, (uint-tells w64, (uint-tells w64, tt)))))
+      (λ κs qs bounds a g are. via 𝓤 _ (fst∗ 𝓤 _ (emp 𝓤)) (walk 𝓤 H A W mem run (κs .0) (qs .0) (a .0) (a .1 .0) (a .1 .1 .0) (a .1 .1 .1 .0) (are .0) (are .1 .1 .0 .1) (are .1 .1 .1 .0 .1) C Λ fm known-check known-new (are .1 .0) (shr-slice-lawful 𝓤 H A W (named 0) (κs .0) u8 .typed (a .1 .0) _ (are .1 .0) .0)))
 
   goes-all : AllGo 𝓤 H A W 1 (opens.signature .params) (opens.ended .kept) stayed
-  goes-all = (goes-none-slice 𝓤 H A W 1 (0 ∷ []) tt (plain (λ _. u8)) yes, (goes-none 𝓤 H A W 1 (λ _. usize) yes (λ κs x f. refl), (goes-none 𝓤 H A W 1 (λ _. usize) yes (λ κs x f. refl), tt)))
+  goes-all = (goes-none 𝓤 H A W 1 (λ _. Rd.the-row) yes (λ κs x f. refl), (goes-none-slice 𝓤 H A W 1 (0 ∷ []) tt (plain (λ _. u8)) yes, (goes-none 𝓤 H A W 1 (λ _. usize) yes (λ κs x f. refl), (goes-none 𝓤 H A W 1 (λ _. usize) yes (λ κs x f. refl), tt))))
 
 open-meets : {M : Type 1} (𝓤 : URA M) (H : Heap 𝓤) (A : Atoms 𝓤) (W : Given 𝓤 H A) (mem : Memory → SProp 𝓤) (run : Routine → Fun 𝓤) (𝓣 : Tables 𝓤 H)
     → Triple 𝓤 (𝓣 .C #records·check-span) (Check 𝓤 H A mem run) → Triple 𝓤 (𝓣 .C #comment-parser·new) (New 𝓤 H A mem run)

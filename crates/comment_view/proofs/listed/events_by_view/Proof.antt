@@ -4,6 +4,7 @@ use mathlib.Core.Path.{_≡_, ap, sym, _∙_}
 use mathlib.Core.Option.{none}
 use native.Mathlib.Omega.{arith}
 use lib.ListN.{length}
+use Rattle.byte_rules.specs.Reading.{named}
 use Rattle.records.specs.Answer.{checkedAnswer, spanRefusal}
 use Rattle.records.specs.Records.{laid}
 use Rattle.records.proofs.Laying.{given-refused, listed-done, listed-short}
@@ -45,13 +46,13 @@ module _ (c : tie.After-fill-lines) where
   accepted : let a = start .args in none ≡ spanRefusal (length (a .buf .now)) (a .start) (a .end)
   accepted = sym (ap checkedAnswer (told .enum-told .given .1)) ∙ told .before .before .check-span .ensures
 
-  counted : let a = start .args in called .lay-by-view .result ≡ length (eventRecords (a .buf .now) (a .start) (a .end))
-  counted = let a = start .args in events-counted (a .buf .now) (a .start) (a .end) (a .out .now) accepted (called .lay-by-view .ensures .0) (called .lay-by-view .ensures .1)
+  counted : let a = start .args in called .lay-by-view .result ≡ length (eventRecords (named (a .reading)) (a .buf .now) (a .start) (a .end))
+  counted = let a = start .args in events-counted (named (a .reading)) (a .buf .now) (a .start) (a .end) (a .out .now) accepted (called .lay-by-view .ensures .0) (called .lay-by-view .ensures .1)
 
-  lined : let a = start .args in c .fill-lines .last .1 .1 .0 ≡ laid eventWidth (eventRecords (a .buf .now) (a .start) (a .end)) (a .out .now)
+  lined : let a = start .args in c .fill-lines .last .1 .1 .0 ≡ laid eventWidth (eventRecords (named (a .reading)) (a .buf .now) (a .start) (a .end)) (a .out .now)
   lined =
       let a = start .args in
-      c .fill-lines .ensures ∙ events-laid (a .buf .now) (a .start) (a .end) (a .out .now) accepted (called .lay-by-view .ensures .0) (called .lay-by-view .ensures .1)
+      c .fill-lines .ensures ∙ events-laid (named (a .reading)) (a .buf .now) (a .start) (a .end) (a .out .now) accepted (called .lay-by-view .ensures .0) (called .lay-by-view .ensures .1)
 
 same-length : tie.Need-same-length
 same-length c = search needs

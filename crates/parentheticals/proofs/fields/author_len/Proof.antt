@@ -1,6 +1,6 @@
 -- `fields::author_len` meets its contract.
 -- Assumes nothing.
-use mathlib.Core.Path.{sym, _∙_}
+use mathlib.Core.Path.{_∙_}
 use Rattle.parentheticals.proofs.FieldLaws.{len-past, len-char, len-other}
 use borrow.Author.Needs.{needs}
 use Rattle.parentheticals.proofs.fields.author_len.Statement.{statement}
@@ -15,16 +15,21 @@ shared-slice-read-is-author-byte c = search needs
 is-author-byte-requires : tie.Need-is-author-byte-requires
 is-author-byte-requires c κs = search needs
 
+bars-author-requires : tie.Need-bars-author-requires
+bars-author-requires c κs = search needs
+
 char-len-requires : tie.Need-char-len-requires
 char-len-requires c κs = search needs
 
 returns-2 : tie.Need-returns-2
 returns-2 c =
-    let author = sym (c .before .before .is-author-byte .ensures) ∙ c .before .if2 .taken in
-    c .char-len .ensures ∙ len-char _ _ (c .before .before .before .before .if1 .left) author
+    let author = rw (← c .before .before .before .is-author-byte .ensures, ← c .before .before .bars-author .ensures) (c .before .if2 .taken) in
+    c .char-len .ensures ∙ len-char _ _ _ (c .before .before .before .before .before .if1 .left) author
 
 returns-3 : tie.Need-returns-3
-returns-3 c = len-other _ _ (c .before .before .before .if1 .left) (sym (c .before .is-author-byte .ensures) ∙ c .if2 .left)
+returns-3 c =
+    let other = rw (← c .before .before .is-author-byte .ensures, ← c .before .bars-author .ensures) (c .if2 .left) in
+    len-other _ _ _ (c .before .before .before .before .if1 .left) other
 
 pub author-len-spec : {M : Type 1} → statement M
 author-len-spec =
@@ -33,6 +38,7 @@ author-len-spec =
     returns
     shared-slice-read-is-author-byte
     is-author-byte-requires
+    bars-author-requires
     char-len-requires
     returns-2
     returns-3)

@@ -9,7 +9,7 @@ use Prim.Native.Nat.{ℕ, _+_, _-_, _≤_}
 use native.Mathlib.Omega.{arith}
 use lib.ListN.{length, take}
 use lib.Seq.{length-take-le}
-use Rattle.byte_rules.specs.Reading.{rust, barsNothing}
+use Rattle.byte_rules.specs.Reading.{Reading, named}
 use Rattle.records.specs.Answer.{checkedAnswer, longest, spanRefusal}
 use Rattle.records.specs.declared.Wrote.{Wrote}
 use Rattle.records.proofs.Laying.{Laying, back, laying-starts, laying-wrote, given-refused, given-done, given-short}
@@ -24,10 +24,10 @@ use Rattle.parentheticals.proofs.list.parentheticals.Statement.{stateme
 use Rattle.parentheticals.proofs.list.parentheticals.Tie as tie
 
 abbrev Inv-loop : tie.InvT-loop
-Inv-loop buf start end out₀ from₀ at₀ n₀ out from at n = Going buf start end out₀ out from at n
+Inv-loop reading buf start end out₀ from₀ at₀ n₀ out from at n = Going (named reading) buf start end out₀ out from at n
 
 abbrev μ-loop : tie.MeasureT-loop
-μ-loop buf start end out₀ from₀ at₀ n₀ out from at n = end - from
+μ-loop reading buf start end out₀ from₀ at₀ n₀ out from at n = end - from
 
 check-span-requires : tie.Need-check-span-requires Inv-loop μ-loop
 check-span-requires c κs = search needs
@@ -48,8 +48,11 @@ entry l = l .before .before .before .before .before .before
 abbrev text : tie.At-loop Inv-loop μ-loop → List ℕ
 text l = take (entry l .args .end) (entry l .args .buf .now)
 
+abbrev rd : tie.At-loop Inv-loop μ-loop → Reading
+rd l = named (entry l .args .reading)
+
 abbrev Laid : tie.At-loop Inv-loop μ-loop → List (List ℕ) → List ℕ → ℕ → ℕ → Type 0
-Laid l rest out at n = let a = entry l .args in Laying recordWidth (recordsOf rust (a .buf .now) (a .start) (a .end)) rest (a .out .now) out at n
+Laid l rest out at n = let a = entry l .args in Laying recordWidth (recordsOf (rd l) (a .buf .now) (a .start) (a .end)) rest (a .out .now) out at n
 
 module _ (l : tie.At-loop Inv-loop μ-loop) where
   not-refused : none ≡ spanRefusal (length (entry l .args .buf .now)) (entry l .args .start) (entry l .args .end)
@@ -69,14 +72,14 @@ module _ (c : tie.After-found Inv-loop μ-loop) where
   abbrev hit : Found
   hit = c .found .given .0 .0
 
-  hit-is : nextFrom barsNothing (text head) (head .loop .from) ≡ some hit
+  hit-is : nextFrom (rd head .barsAuthor) (text head) (head .loop .from) ≡ some hit
   hit-is = sym (c .before .before .next-match .ensures) ∙ ap foundOf (c .found .given .1)
 
   hit-lies : Lies (head .loop .from) (entry head .args .end) hit
-  hit-lies = rw (text-length head) at (next-lies barsNothing (text head) (head .loop .from) hit hit-is)
+  hit-lies = rw (text-length head) at (next-lies (rd head .barsAuthor) (text head) (head .loop .from) hit hit-is)
 
-  to-come : Laid head (recordOf hit ∷ recordsFrom (text head) (hit .whole .end)) (head .loop .out) (head .loop .at) (head .loop .n)
-  to-come = rw (records-more _ _ _ hit-is) at (head .loop .inv .laying)
+  to-come : Laid head (recordOf hit ∷ recordsFrom (rd head .barsAuthor) (text head) (hit .whole .end)) (head .loop .out) (head .loop .at) (head .loop .n)
+  to-come = rw (records-more _ _ _ _ hit-is) at (head .loop .inv .laying)
 
 -- after the record is laid: the tail has come back, with the record at its front or as it was
 module _ (c : tie.After-lay-found Inv-loop μ-loop) where
@@ -88,7 +91,7 @@ module _ (c : tie.After-lay-found Inv-loop μ-loop) where
 
   turned : let l = head arm .loop in
       let w = c .lay-found .result in
-      let rest = recordsFrom (text (head arm)) (hit arm .whole .end) in
+      let rest = recordsFrom (rd (head arm) .barsAuthor) (text (head arm)) (hit arm .whole .end) in
       (l .at + w .words ≤ length (l .out)) × Laid (head arm) rest (back (l .at) (l .out) (c .lay-found .last .0)) (l .at + w .words) (l .n + w .count)
   turned =
       laying-wrote (recordOf (hit arm) ∷ []) _ _ (to-come arm) (refl, tt) (c .lay-found .ensures .1) (c .lay-found .result) (c .lay-found .ensures .0)
@@ -97,7 +100,7 @@ module _ (c : tie.After-lay-found Inv-loop μ-loop) where
 none-to-come : (c : tie.After-enum-told2 Inv-loop μ-loop) → let l = c .before .before .before .before in Laid l [] (l .loop .out) (l .loop .at) (l .loop .n)
 none-to-come c =
     let nothing = sym (c .before .before .next-match .ensures) ∙ ap foundOf (c .enum-told2 .given .1) in
-    rw (records-end _ _ nothing) at (c .before .before .before .before .loop .inv .laying)
+    rw (records-end _ _ _ nothing) at (c .before .before .before .before .loop .inv .laying)
 
 loop-holds : tie.Need-loop-holds Inv-loop μ-loop
 loop-holds c =

@@ -5,6 +5,7 @@
 use borrow.Author.Needs.{needs}
 use mathlib.Core.Path.{_≡_, refl, sym, ap, _∙_}
 use Prim.Native.Nat.{ℕ, _+_, _-_, _≤_, _<_}
+use mathlib.Core.Bool.{Bool}
 use mathlib.Core.List.{List}
 use mathlib.Core.Option.{none, some}
 use native.Mathlib.Nat.{le-refl}
@@ -12,7 +13,7 @@ use native.Mathlib.Omega.{arith}
 use lib.ListN.{length, getD}
 use borrow.Author.Tests.{leb-true}
 use Rattle.basics.proofs.Laws.{both}
-use Rattle.byte_rules.specs.Reading.{barsNothing}
+use Rattle.byte_rules.specs.Reading.{named}
 use Rattle.scans.specs.Marks.{lparen}
 use Rattle.parentheticals.specs.Fields.{authorEnd}
 use Rattle.parentheticals.specs.Matching.{headAt, noticeAt, restAt, nextFrom}
@@ -26,16 +27,16 @@ use Rattle.parentheticals.proofs.matching.next_match.Statement.{stateme
 use Rattle.parentheticals.proofs.matching.next_match.Tie as tie
 
 abbrev Inv-field : tie.InvT-field
-Inv-field text from at₀ start i₀ opening next kind first at i = (first ≤ i) × Way barsNothing text first i
+Inv-field reading text from at₀ start i₀ opening next kind first at i = (first ≤ i) × Way (named reading .barsAuthor) text first i
 
 abbrev μ-field : tie.MeasureT-field
-μ-field text from at₀ start i₀ opening next kind first at i = length text - i
+μ-field reading text from at₀ start i₀ opening next kind first at i = length text - i
 
 abbrev Inv-candidates : tie.InvT-candidates
-Inv-candidates text from at₀ start₀ i₀ at start i = (nextFrom barsNothing text at ≡ nextFrom barsNothing text from) × Barren barsNothing text start i
+Inv-candidates reading text from at₀ start₀ i₀ at start i = (nextFrom (named reading .barsAuthor) text at ≡ nextFrom (named reading .barsAuthor) text from) × Barren (named reading .barsAuthor) text start i
 
 abbrev μ-candidates : tie.MeasureT-candidates
-μ-candidates text from at₀ start₀ i₀ at start i = length text - at
+μ-candidates reading text from at₀ start₀ i₀ at start i = length text - at
 
 -- the candidate and its field, wherever the loop over the field stands
 abbrev entry : tie.At-field Inv-field μ-field Inv-candidates μ-candidates → tie.Start Inv-field μ-field Inv-candidates μ-candidates
@@ -48,6 +49,10 @@ candidate f = f .before .before .before .before .before .before .before .before 
 module _ (f : tie.At-field Inv-field μ-field Inv-candidates μ-candidates) where
   abbrev s : List ℕ
   s = entry f .args .text .now
+
+  -- the bytes that the reading bars
+  abbrev bars : ℕ → Bool
+  bars = named (entry f .args .reading) .barsAuthor
 
   abbrev opening : ℕ
   opening = candidate f .candidates .at
@@ -77,17 +82,17 @@ module _ (f : tie.At-field Inv-field μ-field Inv-candidates μ-candidates) wher
   behind = omega (arith, begins .after, f .field .inv .0)
 
   -- the field from its start is the field from here
-  on-way : authorEnd barsNothing s first ≡ authorEnd barsNothing s (f .field .i)
+  on-way : authorEnd bars s first ≡ authorEnd bars s (f .field .i)
   on-way = f .field .inv .1 first (le-refl first) (f .field .inv .0) (begins .spaced)
 
   -- it is left here for good: so is the candidate, and the place is noted
-  leave : restAt barsNothing s (f .field .i) ≡ none
-      → (nextFrom barsNothing s (opening + 1) ≡ nextFrom barsNothing s (entry f .args .from)) × Barren barsNothing s first (f .field .i)
+  leave : restAt bars s (f .field .i) ≡ none
+      → (nextFrom bars s (opening + 1) ≡ nextFrom bars s (entry f .args .from)) × Barren bars s first (f .field .i)
   leave e =
-      let barren = barren-way barsNothing s first (f .field .i) (f .field .inv .1) e in
+      let barren = barren-way bars s first (f .field .i) (f .field .inv .1) e in
       let here = barren first (le-refl first) (f .field .inv .0) (begins .spaced) in
-      let missed = no-rest barsNothing s opening inside opened no-notice _ _ head here in
-      (sym (next-miss barsNothing s opening inside missed) ∙ candidate f .candidates .inv .0, barren)
+      let missed = no-rest bars s opening inside opened no-notice _ _ head here in
+      (sym (next-miss bars s opening inside missed) ∙ candidate f .candidates .inv .0, barren)
 
 candidates-holds : tie.Need-candidates-holds Inv-field μ-field Inv-candidates μ-candidates
 candidates-holds c = (refl, barren-none _ _)
@@ -109,7 +114,7 @@ candidates-again : tie.Need-candidates-again Inv-field μ-field Inv-candidates �
 candidates-again c =
     let at = c .before .before .before .before .candidates in
     let h = c .before .before .before .candidates-test .taken in
-    (sym (next-miss _ _ _ h (no-opening _ _ _ h (c .before .if1 .taken)) ∙ c .to-opening .ensures .same) ∙ at .inv .0, at .inv .1)
+    (sym (next-miss _ _ _ h (no-opening _ _ _ h (c .before .if1 .taken)) ∙ c .to-opening .ensures .same _) ∙ at .inv .0, at .inv .1)
 
 notice-at-requires : tie.Need-notice-at-requires Inv-field μ-field Inv-candidates μ-candidates
 notice-at-requires c κs = search needs
@@ -189,12 +194,12 @@ candidates-again-4 c =
     leave f (rest-open _ _ _ (author-stop _ _ _ no-comma (sym (c .before .author-len .ensures) ∙ c .if4 .taken)))
 
 add-i : tie.Need-add-i Inv-field μ-field Inv-candidates μ-candidates
-add-i c = let f = c .before .before .before .before in omega (arith, c .before .author-len .ensures, len-fits barsNothing (s f) (f .field .i))
+add-i c = let f = c .before .before .before .before in omega (arith, c .before .author-len .ensures, len-fits (bars f) (s f) (f .field .i))
 
 field-less : tie.Need-field-less Inv-field μ-field Inv-candidates μ-candidates
 field-less c =
     let f = c .before .before .before .before in
-    omega (arith, c .if4 .left, c .before .author-len .ensures, len-fits barsNothing (s f) (f .field .i))
+    omega (arith, c .if4 .left, c .before .author-len .ensures, len-fits (bars f) (s f) (f .field .i))
 
 field-again : tie.Need-field-again Inv-field μ-field Inv-candidates μ-candidates
 field-again c =
@@ -228,8 +233,8 @@ returns-2 c =
     let f = c .before .before .before .before .before .before .before in
     let is-comma = sym (c .before .before .before .before .before .before .byte-at .ensures) ∙ c .before .before .before .before .before .if3 .taken in
     let closed = sym (c .before .before .before .before .tail-at .ensures) ∙ ap tailOf (c .before .before .closing .given .1) in
-    let comma = author-comma barsNothing (s f) (f .field .i) is-comma in
-    let rest = rest-tail barsNothing (s f) (first f) _ _ (on-way f ∙ comma) closed in
+    let comma = author-comma (bars f) (s f) (f .field .i) is-comma in
+    let rest = rest-tail (bars f) (s f) (first f) _ _ (on-way f ∙ comma) closed in
     let hit = is-credit _ _ _ (inside f) (opened f) (no-notice f) _ _ (head f) _ rest in
     ap some (c .credited .ensures) ∙ sym (next-hit _ _ _ (inside f) _ hit) ∙ candidate f .candidates .inv .0
 

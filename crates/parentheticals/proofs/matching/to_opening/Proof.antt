@@ -4,26 +4,25 @@ use Prim.Native.Nat.{_-_}
 use native.Mathlib.Omega.{arith}
 use lib.ListN.{length}
 use borrow.Author.Needs.{needs}
-use Rattle.byte_rules.specs.Reading.{barsNothing}
 use Rattle.parentheticals.specs.Inner.{Passed}
 use Rattle.parentheticals.proofs.Candidates.{passed-starts, passed-one, passed-eight}
 use Rattle.parentheticals.proofs.matching.to_opening.Statement.{statement}
 use Rattle.parentheticals.proofs.matching.to_opening.Tie as tie
 
 abbrev Inv-loop : tie.InvT-loop
-Inv-loop text from i₀ i = Passed barsNothing text from i
+Inv-loop text from i₀ i = Passed text from i
 
 abbrev μ-loop : tie.MeasureT-loop
 μ-loop text from i₀ i = length text - i
 
 abbrev Inv-loop2 : tie.InvT-loop2
-Inv-loop2 text from i₀ i = Passed barsNothing text from i
+Inv-loop2 text from i₀ i = Passed text from i
 
 abbrev μ-loop2 : tie.MeasureT-loop2
 μ-loop2 text from i₀ i = length text - i
 
 loop-holds : tie.Need-loop-holds Inv-loop μ-loop Inv-loop2 μ-loop2
-loop-holds c = passed-starts _ _ _
+loop-holds c = passed-starts _ _
 
 lacks-8-requires : tie.Need-lacks-8-requires Inv-loop μ-loop Inv-loop2 μ-loop2
 lacks-8-requires c κs = search needs
@@ -35,7 +34,7 @@ loop-less : tie.Need-loop-less Inv-loop μ-loop Inv-loop2 μ-loop2
 loop-less c = omega (arith, c .before .lacks-8 .ensures (c .if1 .taken) .within)
 
 loop-again : tie.Need-loop-again Inv-loop μ-loop Inv-loop2 μ-loop2
-loop-again c = passed-eight _ _ (c .before .before .loop .inv) (c .before .lacks-8 .ensures (c .if1 .taken))
+loop-again c = passed-eight _ (c .before .before .loop .inv) (c .before .lacks-8 .ensures (c .if1 .taken))
 
 loop2-holds : tie.Need-loop2-holds Inv-loop μ-loop Inv-loop2 μ-loop2
 loop2-holds c = c .before .before .loop .inv
@@ -53,7 +52,7 @@ loop2-less : tie.Need-loop2-less Inv-loop μ-loop Inv-loop2 μ-loop2
 loop2-less c = search needs
 
 loop2-again : tie.Need-loop2-again Inv-loop μ-loop Inv-loop2 μ-loop2
-loop2-again c = passed-one _ _ (c .before .before .before .loop2 .inv) (c .before .before .loop2-test .taken) (c .if2 .left)
+loop2-again c = passed-one _ (c .before .before .before .loop2 .inv) (c .before .before .loop2-test .taken) (c .if2 .left)
 
 returns-2 : tie.Need-returns-2 Inv-loop μ-loop Inv-loop2 μ-loop2
 returns-2 c = c .before .loop2 .inv

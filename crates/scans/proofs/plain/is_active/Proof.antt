@@ -3,7 +3,7 @@
 use native.Mathlib.Omega.{arith}
 use borrow.Author.Tests.{ne-eqb}
 use Rattle.scans.specs.Plain.{isActive}
-use Rattle.scans.proofs.Laws.{or-false}
+use Rattle.basics.proofs.Laws.{or-false}
 use Rattle.scans.proofs.plain.is_active.Statement.{statement}
 use Rattle.scans.proofs.plain.is_active.Tie as tie
 

@@ -8,6 +8,7 @@ use mathlib.Core.Option.{none}
 use native.Mathlib.Omega.{arith}
 use lib.ListN.{length}
 use Rattle.basics.proofs.Laws.{the-one, the-other}
+use Rattle.byte_rules.specs.Reading.{named}
 use Rattle.records.specs.Answer.{spanRefusal}
 use Rattle.records.specs.Records.{laid}
 use Rattle.records.proofs.Laws.{Wide}
@@ -75,8 +76,8 @@ module _ (c : tie.After-enum-told2) where
   good = tables-good ∙ the-other _ (span-good (c .before .before .before))
 
   all-same : let a = entry (c .before .before .before) .args in
-      diagnostics (namesBy searched lent) (a .buf .now) (a .start) (a .end) ≡ diagnostics (namesBy entryOf lent) (a .buf .now) (a .start) (a .end)
-  all-same = ap (λ (n : Names). let a = entry (c .before .before .before) .args in diagnostics n (a .buf .now) (a .start) (a .end)) (names-good lent tables-good)
+      diagnostics (named (a .reading)) (namesBy searched lent) (a .buf .now) (a .start) (a .end) ≡ diagnostics (named (a .reading)) (namesBy entryOf lent) (a .buf .now) (a .start) (a .end)
+  all-same = ap (λ (n : Names). let a = entry (c .before .before .before) .args in diagnostics (named (a .reading)) n (a .buf .now) (a .start) (a .end)) (names-good lent tables-good)
 
 lay-all-requires : tie.Need-lay-all-requires
 lay-all-requires c κs =
@@ -100,19 +101,19 @@ module _ (c : tie.After-fill-lines) where
 
   -- by the search
   abbrev found : List (List ℕ)
-  found = let a = start .args in diagnostics (namesBy searched (lent told)) (a .buf .now) (a .start) (a .end)
+  found = let a = start .args in diagnostics (named (a .reading)) (namesBy searched (lent told)) (a .buf .now) (a .start) (a .end)
 
   abbrev due : List (List ℕ)
-  due = let a = start .args in checkDiags (a .buf .now) (a .start) (a .end) (lent told)
+  due = let a = start .args in checkDiags (named (a .reading)) (a .buf .now) (a .start) (a .end) (lent told)
 
   wide : Wide diagWidth found
-  wide = let a = start .args in diagnostics-wide (namesBy searched (lent told)) (a .buf .now) (a .start) (a .end)
+  wide = let a = start .args in diagnostics-wide (named (a .reading)) (namesBy searched (lent told)) (a .buf .now) (a .start) (a .end)
 
   fit : AllFit (start .args .buf .now) found
   fit =
       let a = start .args in
       let s = span-accepted _ _ _ (sym (span-good (told .before .before .before))) in
-      diagnostics-fit (a .buf .now) (omega (arith, s)) (namesBy searched (lent told)) (a .start) (a .end)
+      diagnostics-fit (a .buf .now) (omega (arith, s)) (named (a .reading)) (namesBy searched (lent told)) (a .start) (a .end)
 
   counted : listed .lay-all .result ≡ length due
   counted =

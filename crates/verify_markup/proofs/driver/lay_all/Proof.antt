@@ -4,6 +4,7 @@ use borrow.Author.Needs.{needs}
 use Prim.Native.Nat.{_+_, _≤_}
 use native.Mathlib.Omega.{arith}
 use lib.ListN.{length}
+use Rattle.byte_rules.specs.Reading.{named}
 use Rattle.records.proofs.Laying.{back}
 use Rattle.comment_parser.specs.Events.{left}
 use Rattle.comment_parser.specs.declared.ParserState.{ParserState}
@@ -16,11 +17,11 @@ use Rattle.verify_markup.proofs.driver.lay_all.Statement.{statement}
 use Rattle.verify_markup.proofs.driver.lay_all.Tie as tie
 
 abbrev Inv-loop : tie.InvT-loop
-Inv-loop buf start end sb se lb le tags bb be out₀ st₀ note₀ modes₀ at₀ n₀ out st note modes at n =
-    Going (lentNames sb se lb le tags bb be) buf start end out₀ out st note modes at n
+Inv-loop reading buf start end sb se lb le tags bb be out₀ st₀ note₀ modes₀ at₀ n₀ out st note modes at n =
+    Going (named reading) (lentNames sb se lb le tags bb be) buf start end out₀ out st note modes at n
 
 abbrev μ-loop : tie.MeasureT-loop
-μ-loop buf start end sb se lb le tags bb be out₀ st₀ note₀ modes₀ at₀ n₀ out st note modes at n = left st
+μ-loop reading buf start end sb se lb le tags bb be out₀ st₀ note₀ modes₀ at₀ n₀ out st note modes at n = left st
 
 new-requires : tie.Need-new-requires Inv-loop μ-loop
 new-requires c κs = search needs
@@ -32,7 +33,7 @@ loop-holds : tie.Need-loop-holds Inv-loop μ-loop
 loop-holds c =
     let s = c .before .before .before .before .before .before .before .before .before .before in
     let a = s .args in
-    rw (c .before .new .ensures) (going-starts _ (a .buf .now) (a .start) (a .end) (a .out .now) (c .nothing .result) (c .nothing .ensures .1) (omega (arith, s .pre .inside, s .pre .short)))
+    rw (c .before .new .ensures) (going-starts (a .reading) _ (a .buf .now) (a .start) (a .end) (a .out .now) (c .nothing .result) (c .nothing .ensures .1) (omega (arith, s .pre .inside, s .pre .short)))
 
 next-noted-requires : tie.Need-next-noted-requires Inv-loop μ-loop
 next-noted-requires c κs = search needs
@@ -78,7 +79,7 @@ module _ (c : tie.After-lay-item Inv-loop μ-loop) where
       let a = call .before .before .before .before .before .before .before .before .before .before .before .before .args in
       let w = c .lay-item .result in
       (l .at + w .words ≤ length (l .out))
-      × Going (lentNames (a .sb .now) (a .se .now) (a .lb .now) (a .le .now) (a .tags) (a .bb .now) (a .be .now)) (a .buf .now) (a .start) (a .end) (a .out .now)
+      × Going (named (a .reading)) (lentNames (a .sb .now) (a .se .now) (a .lb .now) (a .le .now) (a .tags) (a .bb .now) (a .be .now)) (a .buf .now) (a .start) (a .end) (a .out .now)
       (back (l .at) (l .out) (c .lay-item .last .1 .1 .1 .1 .1 .1 .1 .1 .1 .1 .0)) after (call .next-noted .result .note) (modesAfter (l .modes) (event .next .given .0 .1 .0)) (l .at + w .words) (l .n + w .count)
 
   turned : Turned
