@@ -12,8 +12,9 @@ use Rattle.records.specs.Answer.{Answer, checkedAnswer, spanRefusal}
 use Rattle.records.proofs.Answers.{span-accepted}
 use Rattle.records.specs.Records.{laid}
 use Rattle.records.proofs.Laying.{Laying, back, given-refused, all-counted, all-laid, listed-done, listed-short}
-use Rattle.byte_rules.specs.Reading.{named}
+use Rattle.byte_rules.specs.Reading.{Reading, named}
 use Rattle.comment_parser.specs.Events.{left}
+use Rattle.comment_parser.specs.declared.ParserState.{ParserState}
 use Rattle.comment_parser.proofs.Along.{along-end, along-less, along-within}
 use Rattle.comment_parser.proofs.Giving.{Going, going-starts, going-on, going-ends}
 use Rattle.events.specs.Events.{eventWidth, placedFrom, placedRecords, eventRecords}
@@ -22,10 +23,11 @@ use Rattle.events.proofs.events.Statement.{statement}
 use Rattle.events.proofs.events.Tie as tie
 
 abbrev Inv-loop : tie.InvT-loop
-Inv-loop reading buf start end out₀ st₀ note₀ at₀ n₀ out st note at n = Going (named reading) eventWidth buf (placedFrom (named reading) buf) (placedRecords (named reading) buf start end) out₀ out st note at n
+Inv-loop buf start end out₀ st₀ note₀ at₀ n₀ out st note at n =
+    let rd = named (st₀ .reading) in Going rd eventWidth buf (placedFrom rd buf) (placedRecords rd buf start end) out₀ out st note at n
 
 abbrev μ-loop : tie.MeasureT-loop
-μ-loop reading buf start end out₀ st₀ note₀ at₀ n₀ out st note at n = left st
+μ-loop buf start end out₀ st₀ note₀ at₀ n₀ out st note at n = left st
 
 check-span-requires : tie.Need-check-span-requires Inv-loop μ-loop
 check-span-requires c κs = search needs
@@ -72,6 +74,13 @@ enum-known-next c = search needs
 abbrev entry : tie.At-loop Inv-loop μ-loop → tie.Start Inv-loop μ-loop
 entry l = l .before .before .before .before .before .before .before .before
 
+-- the reading that the first state names is the one that was asked for
+abbrev rd : tie.At-loop Inv-loop μ-loop → Reading
+rd l = named (l .before .before .new .result .reading)
+
+is-asked : (l : tie.At-loop Inv-loop μ-loop) → rd l ≡ named (entry l .args .reading)
+is-asked l = ap (λ (st : ParserState). named (st .reading)) (l .before .before .new .ensures)
+
 mul-lay-event : tie.Need-mul-lay-event Inv-loop μ-loop
 mul-lay-event c =
     let l = c .before .before .before .before .before in
@@ -109,7 +118,7 @@ module _ (c : tie.After-lay-event Inv-loop μ-loop) where
       let l = head .loop in
       let w = c .lay-event .result in
       (l .at + w .words ≤ length (l .out))
-      × Going (named (a .reading)) eventWidth (a .buf .now) (placedFrom (named (a .reading)) (a .buf .now)) (placedRecords (named (a .reading)) (a .buf .now) (a .start) (a .end)) (a .out .now) (back (l .at) (l .out) (c .lay-event .last .0)) (event .next .given .0 .0) (call .next-noted .result .note) (l .at + w .words) (l .n + w .count)
+      × Going (rd head) eventWidth (a .buf .now) (placedFrom (rd head) (a .buf .now)) (placedRecords (rd head) (a .buf .now) (a .start) (a .end)) (a .out .now) (back (l .at) (l .out) (c .lay-event .last .0)) (event .next .given .0 .0) (call .next-noted .result .note) (l .at + w .words) (l .n + w .count)
 
   turned : Turned
   turned = going-on (records-given _ _) (head .loop .inv) (call .next-noted .ensures) (event .next .given .1) (c .lay-event .ensures .0) (c .lay-event .ensures .1)
@@ -138,7 +147,7 @@ none-to-come : (c : tie.At-match2-keys2 Inv-loop μ-loop)
 none-to-come c =
     let call = c .before .before in
     let inv = call .before .loop .inv in
-    going-ends (records-given _ _) inv (along-end (inv .along) (call .next-noted .ensures) (c .match2 .keys2))
+    rw (is-asked (call .before)) at (going-ends (records-given _ _) inv (along-end (inv .along) (call .next-noted .ensures) (c .match2 .keys2)))
 
 fill-lines-requires : tie.Need-fill-lines-requires Inv-loop μ-loop
 fill-lines-requires c κs = search needs

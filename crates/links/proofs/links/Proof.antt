@@ -13,8 +13,9 @@ use Rattle.records.specs.Answer.{longest, checkedAnswer, spanRefusal}
 use Rattle.records.proofs.Answers.{span-accepted}
 use Rattle.records.proofs.Laying.{Laying, back, given-refused, given-done, given-short}
 use Rattle.name_table.specs.Table.{tableRefusal}
-use Rattle.byte_rules.specs.Reading.{named}
+use Rattle.byte_rules.specs.Reading.{Reading, named}
 use Rattle.comment_parser.specs.Events.{left}
+use Rattle.comment_parser.specs.declared.ParserState.{ParserState}
 use Rattle.comment_parser.proofs.Along.{along-end, along-less, along-inside}
 use Rattle.comment_parser.proofs.Giving.{Going, going-starts, going-on, going-ends}
 use Rattle.links.specs.Links.{linkWidth, linksOf, linksRefusal}
@@ -23,10 +24,11 @@ use Rattle.links.proofs.links.Statement.{statement}
 use Rattle.links.proofs.links.Tie as tie
 
 abbrev Inv-loop : tie.InvT-loop
-Inv-loop reading buf start end lb le out₀ st₀ note₀ at₀ n₀ out st note at n = Going (named reading) linkWidth buf (linksOn (named reading) buf lb le) (linksOf (named reading) buf lb le start end) out₀ out st note at n
+Inv-loop buf start end lb le out₀ st₀ note₀ at₀ n₀ out st note at n =
+    let rd = named (st₀ .reading) in Going rd linkWidth buf (linksOn rd buf lb le) (linksOf rd buf lb le start end) out₀ out st note at n
 
 abbrev μ-loop : tie.MeasureT-loop
-μ-loop reading buf start end lb le out₀ st₀ note₀ at₀ n₀ out st note at n = left st
+μ-loop buf start end lb le out₀ st₀ note₀ at₀ n₀ out st note at n = left st
 
 check-span-requires : tie.Need-check-span-requires Inv-loop μ-loop
 check-span-requires c κs = search needs
@@ -111,6 +113,13 @@ enum-known-next c = search needs
 abbrev checked : tie.At-loop Inv-loop μ-loop → tie.After-enum-told2 Inv-loop μ-loop
 checked l = l .before .before .before
 
+-- the reading that the first state names is the one that was asked for
+abbrev rd : tie.At-loop Inv-loop μ-loop → Reading
+rd l = named (l .before .before .new .result .reading)
+
+is-asked : (l : tie.At-loop Inv-loop μ-loop) → rd l ≡ named (start (checked l) .args .reading)
+is-asked l = ap (λ (st : ParserState). named (st .reading)) (l .before .before .new .ensures)
+
 mul-lay-item : tie.Need-mul-lay-item Inv-loop μ-loop
 mul-lay-item c =
     let l = c .before .before .before .before .before in
@@ -149,7 +158,7 @@ module _ (c : tie.After-lay-item Inv-loop μ-loop) where
       let l = head .loop in
       let w = c .lay-item .result in
       (l .at + w .words ≤ length (l .out))
-      × Going (named (a .reading)) linkWidth (a .buf .now) (linksOn (named (a .reading)) (a .buf .now) (a .lb .now) (a .le .now)) (linksOf (named (a .reading)) (a .buf .now) (a .lb .now) (a .le .now) (a .start) (a .end)) (a .out .now) (back (l .at) (l .out) (c .lay-item .last .1 .1 .1 .1 .0)) (event .next .given .0 .0) (call .next-noted .result .note) (l .at + w .words) (l .n + w .count)
+      × Going (rd head) linkWidth (a .buf .now) (linksOn (rd head) (a .buf .now) (a .lb .now) (a .le .now)) (linksOf (rd head) (a .buf .now) (a .lb .now) (a .le .now) (a .start) (a .end)) (a .out .now) (back (l .at) (l .out) (c .lay-item .last .1 .1 .1 .1 .0)) (event .next .given .0 .0) (call .next-noted .result .note) (l .at + w .words) (l .n + w .count)
 
   turned : Turned
   turned = going-on (links-given _ _ _ _) (head .loop .inv) (call .next-noted .ensures) (event .next .given .1) (c .lay-item .ensures .0) (c .lay-item .ensures .1)
@@ -178,7 +187,7 @@ none-to-come : (c : tie.At-match3-keys2 Inv-loop μ-loop)
 none-to-come c =
     let call = c .before .before in
     let inv = call .before .loop .inv in
-    going-ends (links-given _ _ _ _) inv (along-end (inv .along) (call .next-noted .ensures) (c .match3 .keys2))
+    rw (is-asked (call .before)) at (going-ends (links-given _ _ _ _) inv (along-end (inv .along) (call .next-noted .ensures) (c .match3 .keys2)))
 
 same-length : tie.Need-same-length Inv-loop μ-loop
 same-length c = search needs

@@ -26,12 +26,12 @@ use Rattle.listing.proofs.put_events.Statement.{statement}
 use Rattle.listing.proofs.put_events.Tie as tie
 
 abbrev Inv-loop : tie.InvT-loop
-Inv-loop reading buffer₀ comment written₀ st₀ note₀ place₀ line₀ buffer written st note place line =
-    Along (named reading) comment st note × Carried comment st place line × (length buffer ≡ length buffer₀)
-    × (gathered (length buffer₀) (waiting written buffer) (linesFrom (named reading) comment st) ≡ gathered (length buffer₀) (waiting written₀ buffer₀) (eventLines (named reading) comment))
+Inv-loop buffer₀ comment written₀ st₀ note₀ place₀ line₀ buffer written st note place line =
+    Along (named (st₀ .reading)) comment st note × Carried comment st place line × (length buffer ≡ length buffer₀)
+    × (gathered (length buffer₀) (waiting written buffer) (linesFrom (named (st₀ .reading)) comment st) ≡ gathered (length buffer₀) (waiting written₀ buffer₀) (eventLines (named (st₀ .reading)) comment))
 
 abbrev μ-loop : tie.MeasureT-loop
-μ-loop reading buffer₀ comment written₀ st₀ note₀ place₀ line₀ buffer written st note place line = left st
+μ-loop buffer₀ comment written₀ st₀ note₀ place₀ line₀ buffer written st note place line = left st
 
 new-requires : tie.Need-new-requires Inv-loop μ-loop
 new-requires c κs = tt

@@ -9,8 +9,8 @@ use Rattle.parentheticals.proofs.fields.author_len.Tie as tie
 returns : tie.Need-returns
 returns c = len-past _ _ _ (c .if1 .taken)
 
-shared-slice-read-is-author-byte : tie.Need-shared-slice-read-is-author-byte
-shared-slice-read-is-author-byte c = search needs
+shared-slice-read-c : tie.Need-shared-slice-read-c
+shared-slice-read-c c = search needs
 
 is-author-byte-requires : tie.Need-is-author-byte-requires
 is-author-byte-requires c κs = search needs
@@ -23,20 +23,21 @@ char-len-requires c κs = search needs
 
 returns-2 : tie.Need-returns-2
 returns-2 c =
-    let author = rw (← c .before .before .before .is-author-byte .ensures, ← c .before .before .bars-author .ensures) (c .before .if2 .taken) in
-    c .char-len .ensures ∙ len-char _ _ _ (c .before .before .before .before .before .if1 .left) author
+    c .char-len .ensures
+    ∙ len-char _ _ _ (c .before .before .before .before .before .if1 .left)
+    (rw (← c .before .before .before .is-author-byte .ensures, ← c .before .before .bars-author .ensures) (c .before .if2 .taken))
 
 returns-3 : tie.Need-returns-3
 returns-3 c =
-    let other = rw (← c .before .before .is-author-byte .ensures, ← c .before .bars-author .ensures) (c .if2 .left) in
-    len-other _ _ _ (c .before .before .before .before .if1 .left) other
+    len-other _ _ _ (c .before .before .before .before .if1 .left)
+    (rw (← c .before .before .is-author-byte .ensures, ← c .before .bars-author .ensures) (c .if2 .left))
 
 pub author-len-spec : {M : Type 1} → statement M
 author-len-spec =
     tie.close
     (tie.spec
     returns
-    shared-slice-read-is-author-byte
+    shared-slice-read-c
     is-author-byte-requires
     bars-author-requires
     char-len-requires

@@ -194,7 +194,7 @@ candidates-again-4 c =
     leave f (rest-open _ _ _ (author-stop _ _ _ no-comma (sym (c .before .author-len .ensures) ∙ c .if4 .taken)))
 
 add-i : tie.Need-add-i Inv-field μ-field Inv-candidates μ-candidates
-add-i c = let f = c .before .before .before .before in omega (arith, c .before .author-len .ensures, len-fits (bars f) (s f) (f .field .i))
+add-i c = let f = c .before .before .before .before in omega (arith, c .before .author-len .ensures, len-fits (bars f) (s f) (f .field .i), entry f .good)
 
 field-less : tie.Need-field-less Inv-field μ-field Inv-candidates μ-candidates
 field-less c =

@@ -2,9 +2,10 @@
 -- Assumes nothing.
 use borrow.Author.Needs.{needs}
 use Prim.Native.Nat.{_+_, _≤_}
+use mathlib.Core.Path.{_≡_, ap}
 use native.Mathlib.Omega.{arith}
 use lib.ListN.{length}
-use Rattle.byte_rules.specs.Reading.{named}
+use Rattle.byte_rules.specs.Reading.{Reading, named}
 use Rattle.records.proofs.Laying.{back}
 use Rattle.comment_parser.specs.Events.{left}
 use Rattle.comment_parser.specs.declared.ParserState.{ParserState}
@@ -17,11 +18,11 @@ use Rattle.verify_markup.proofs.driver.lay_all.Statement.{statement}
 use Rattle.verify_markup.proofs.driver.lay_all.Tie as tie
 
 abbrev Inv-loop : tie.InvT-loop
-Inv-loop reading buf start end sb se lb le tags bb be out₀ st₀ note₀ modes₀ at₀ n₀ out st note modes at n =
-    Going (named reading) (lentNames sb se lb le tags bb be) buf start end out₀ out st note modes at n
+Inv-loop buf start end sb se lb le tags bb be out₀ st₀ note₀ modes₀ at₀ n₀ out st note modes at n =
+    Going (named (st₀ .reading)) (lentNames sb se lb le tags bb be) buf start end out₀ out st note modes at n
 
 abbrev μ-loop : tie.MeasureT-loop
-μ-loop reading buf start end sb se lb le tags bb be out₀ st₀ note₀ modes₀ at₀ n₀ out st note modes at n = left st
+μ-loop buf start end sb se lb le tags bb be out₀ st₀ note₀ modes₀ at₀ n₀ out st note modes at n = left st
 
 new-requires : tie.Need-new-requires Inv-loop μ-loop
 new-requires c κs = search needs
@@ -62,6 +63,13 @@ lay-item-requires c κs =
     let k = e .before .before .before in
     (k .before .before .before .before .before .before .before .before .before .before .before .before .pre .short, along-inside (k .before .loop .inv .along) (k .next-noted .ensures) (e .next .given .1))
 
+-- the reading that the first state names is the one that was asked for
+abbrev rd : tie.At-loop Inv-loop μ-loop → Reading
+rd l = named (l .before .before .new .result .reading)
+
+is-asked : (l : tie.At-loop Inv-loop μ-loop) → rd l ≡ named (l .before .before .before .before .before .before .before .before .before .before .before .args .reading)
+is-asked l = ap (λ (st : ParserState). named (st .reading)) (l .before .before .new .ensures)
+
 -- a turn, seen from the place behind the event's records
 module _ (c : tie.After-lay-item Inv-loop μ-loop) where
   abbrev event : tie.After-next Inv-loop μ-loop
@@ -79,7 +87,7 @@ module _ (c : tie.After-lay-item Inv-loop μ-loop) where
       let a = call .before .before .before .before .before .before .before .before .before .before .before .before .args in
       let w = c .lay-item .result in
       (l .at + w .words ≤ length (l .out))
-      × Going (named (a .reading)) (lentNames (a .sb .now) (a .se .now) (a .lb .now) (a .le .now) (a .tags) (a .bb .now) (a .be .now)) (a .buf .now) (a .start) (a .end) (a .out .now)
+      × Going (rd (call .before)) (lentNames (a .sb .now) (a .se .now) (a .lb .now) (a .le .now) (a .tags) (a .bb .now) (a .be .now)) (a .buf .now) (a .start) (a .end) (a .out .now)
       (back (l .at) (l .out) (c .lay-item .last .1 .1 .1 .1 .1 .1 .1 .1 .1 .1 .0)) after (call .next-noted .result .note) (modesAfter (l .modes) (event .next .given .0 .1 .0)) (l .at + w .words) (l .n + w .count)
 
   turned : Turned
@@ -143,7 +151,7 @@ returns c =
     let k = m .before .before in
     let g = k .before .loop .inv in
     let a = k .before .before .before .before .before .before .before .before .before .before .before .before .args in
-    last-laid (going-ends g (along-end (g .along) (k .next-noted .ensures) (m .match .keys2))) (few-last (a .end) (k .before .loop .modes)) (z .lay-last .result) _ (z .lay-last .ensures)
+    last-laid (rw (is-asked (k .before)) at (going-ends g (along-end (g .along) (k .next-noted .ensures) (m .match .keys2)))) (few-last (a .end) (k .before .loop .modes)) (z .lay-last .result) _ (z .lay-last .ensures)
 
 pub lay-all-spec : {M : Type 1} → statement M
 lay-all-spec =
