@@ -16,6 +16,7 @@ use Rattle.look.specs.Look.{byteAt, blankAt, doubledAt, wordAt}
 use Rattle.scans.specs.Marks.{tick, tilde, lbracket, under, less, lf, openHtml, closeHtml}
 use Rattle.scans.specs.Ends.{tagEnd, subscriptEnd, italicEnd}
 use Rattle.scans.specs.Scan.{scan}
+use Rattle.scans.specs.declared.Step.{Step}
 use Rattle.records.specs.Answer.{Answer, unless, stateRefusal}
 use Rattle.comment_parser.specs.Rules.{afterLf, tickRule, tildeRule, mathRule, htmlRule, bracketRule, newlineRule, opensItalic, openUnder, underRule, plainRule, textRule, firstRule, stepTo, passAct}
 use Rattle.comment_parser.specs.Pass.{stepOf, runTo, atEnd, runStart, passStep, endedAt, pass, runItem}
@@ -125,7 +126,9 @@ module _ (name : Name) where
 
     act-called : passAct rd s (called st) from p ≡ calledAct (passAct rd s st from p)
     unfolding passAct
-    act-called = rw first-called (stepped (firstRule rd s st from p))
+    act-called =
+        ap (λ (a : Act). elim a as (λ _. Act) [ One ↦ stepTo (called st) (p + 1) One | Two ↦ stepTo (called st) (p + 2) Two | Ends q t ↦ Ends q t ]) first-called
+        ∙ stepped (firstRule rd s st from p)
 
   -- ---- a pass
 
@@ -147,11 +150,14 @@ module _ (name : Name) where
 
     ended-called : (from p : ℕ) → endedAt rd s (called st) from p ≡ calledRun (endedAt rd s st from p)
     unfolding endedAt
-    ended-called from p = by-arms calledRun (ltb p (length s)) (rw (act-called rd s st from p) (run-called (passAct rd s st from p))) refl
+    ended-called from p =
+        by-arms calledRun (ltb p (length s))
+        (ap (λ (a : Act). elim a as (λ _. Run) [ Ends q t ↦ runTo q t | One ↦ atEnd s (called st) | Two ↦ atEnd s (called st) ]) (act-called rd s st from p) ∙ run-called (passAct rd s st from p))
+        refl
 
     pass-called : (from : ℕ) → pass rd s (called st) from ≡ calledRun (pass rd s st from)
     unfolding pass
-    pass-called from = rw (steps-called from) (ended-called from (scan (passStep rd s st from) (length s) from))
+    pass-called from = ap (λ (f : ℕ → Step). endedAt rd s (called st) from (scan f (length s) from)) (steps-called from) ∙ ended-called from (scan (passStep rd s st from) (length s) from)
 
   -- ---- an answer
 
@@ -172,7 +178,10 @@ module _ (name : Name) where
 
     read-called : (s : List ℕ) (st : ParserState) → readOn rd s (called st) ≡ calledNext (readOn rd s st)
     unfolding readOn runStart runItem
-    read-called s st = rw (pass-called rd s st (runStart s st)) (run-given (runStart s st) (runItem st (runStart s st)) (pass rd s st (runStart s st)))
+    read-called s st =
+        let from = runStart s st in
+        ap (λ (r : Run). elim (ltb from (r .end)) as (λ _. Next) [ true ↦ Event (r .after) (runItem st from (r .end)) | false ↦ give (r .after) ]) (pass-called rd s st from)
+        ∙ run-given from (runItem st from) (pass rd s st from)
 
     module _ (buf : List ℕ) (st : ParserState) where
       answered-called : answered rd buf (called st) ≡ calledNext (answered rd buf st)
@@ -190,7 +199,9 @@ module _ (name : Name) where
 
       seen-called : seen rd buf (called st) ≡ calledSeen (seen rd buf st)
       unfolding seen nextOf
-      seen-called = rw answered-called (go (stateRefusal (length buf) (st .pos) (st .end)))
+      seen-called =
+          let r = stateRefusal (length buf) (st .pos) (st .end) in
+          ap (λ (n : Next). let u : Outcome = unless r (refusedAs (called st)) (stepAnswer n) in paired (u .event) (u .state)) answered-called ∙ go r
         where
           go : (o : Option Answer)
               → let u : Outcome = unless o (refusedAs (called st)) (stepAnswer (calledNext (answered rd buf st))) in
