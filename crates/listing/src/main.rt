@@ -70,15 +70,8 @@ fn finish(output: Output, buffer: &[u8]) {
     os::fail(b"standard output");
 }
 
-// The room for the comment has as many bytes as a comment may have; a longer one is refused (8). That for the argument has one more than `--strict`, so a
-// longer one is told from it.
-fn main() {
-    let mut first = [0u8; 9];
-    let length = os::arg(1, &mut first);
-    let Asked::Read(reading) = asked_for(os::arg_count(), &first[..length]) else {
-        io::write_all(STDERR_FILENO, b"listing: takes no argument but --strict\n");
-        return;
-    };
+// The room for the comment has as many bytes as a comment may have; a longer one is refused (8).
+fn list_input(reading: Reading) {
     let mut room = io::large_buffer();
     let mut buffer = io::buffer();
     let Input::Bytes(n) = read_input(&mut room) else {
@@ -88,5 +81,17 @@ fn main() {
     match check_input(n) {
         Checked::Good => finish(put_listing(reading, &mut buffer, &room[..n]), &buffer),
         Checked::Refused(why) => finish(Output::new().refused(&mut buffer, why), &buffer),
+    }
+}
+
+// The room for the argument has one byte more than `--strict`, so that a longer one is told from it.
+fn main() {
+    let mut first = [0u8; 9];
+    let length = os::arg(1, &mut first);
+    match asked_for(os::arg_count(), &first[..length]) {
+        Asked::Read(reading) => list_input(reading),
+        Asked::WrongUse => {
+            io::write_all(STDERR_FILENO, b"listing: takes no argument but --strict\n");
+        }
     }
 }

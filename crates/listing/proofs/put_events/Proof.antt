@@ -8,7 +8,7 @@ use native.Mathlib.Omega.{arith}
 use lib.ListN.{length}
 use borrow.Author.Needs.{needs}
 use Rattle.basics.proofs.Laws.{differ}
-use Rattle.byte_rules.specs.Reading.{named}
+use Rattle.byte_rules.specs.Reading.{Reading, named}
 use Rattle.lines.specs.Lines.{lineOf}
 use Rattle.lines.proofs.Laws.{line-most}
 use Rattle.comment_parser.specs.Item.{placedOf}
@@ -45,6 +45,13 @@ loop-holds c =
     rw (c .before .new .ensures, ← events-start (a .reading) (a .comment .now) 0 (length (a .comment .now)))
     (along-starts _ _ _ _ (c .nothing .result) (c .nothing .ensures .1), carried-starts _ _ _, refl, refl)
 
+-- the reading that the first state names is the one that was asked for
+abbrev rd : tie.At-loop Inv-loop μ-loop → Reading
+rd l = named (l .before .before .new .result .reading)
+
+is-asked : (l : tie.At-loop Inv-loop μ-loop) → rd l ≡ named (l .before .before .before .before .before .args .reading)
+is-asked l = ap (λ (st : ParserState). named (st .reading)) (l .before .before .new .ensures)
+
 next-noted-requires : tie.Need-next-noted-requires Inv-loop μ-loop
 next-noted-requires c κs = tt
 
@@ -59,9 +66,10 @@ returns c good =
     let k = c .before .before in
     let l = k .before .loop in
     let a = c .before .before .before .before .before .before .before .before .args in
-    gather-end (length (a .buffer .now)) (waiting (l .written) (l .buffer)) (linesFrom (named (a .reading)) (a .comment .now) (l .st))
-    (lines-end (named (a .reading)) (a .comment .now) (l .st) (along-end (l .inv .0) (k .next-noted .ensures) (c .match .keys2)))
-    (l .inv .3)
+    rw (← is-asked (k .before))
+    (gather-end (length (a .buffer .now)) (waiting (l .written) (l .buffer)) (linesFrom (rd (k .before)) (a .comment .now) (l .st))
+    (lines-end (rd (k .before)) (a .comment .now) (l .st) (along-end (l .inv .0) (k .next-noted .ensures) (c .match .keys2)))
+    (l .inv .3))
 
 placed-requires : tie.Need-placed-requires Inv-loop μ-loop
 placed-requires c κs = tt
@@ -89,7 +97,7 @@ module _ (c : tie.After-lines-between Inv-loop μ-loop) where
   abbrev after : ParserState
   after = event .next .given .0 .0
 
-  given-event : seen (named (entry .args .reading)) (entry .args .comment .now) (head .loop .st) ≡ some (item, after)
+  given-event : seen (rd head) (entry .args .comment .now) (head .loop .st) ≡ some (item, after)
   given-event = along-event (head .loop .inv .0) (call .next-noted .ensures) (event .next .given .1)
 
   at-place : c .before .placed .result .place ≡ placedOf item .place
@@ -98,13 +106,13 @@ module _ (c : tie.After-lines-between Inv-loop μ-loop) where
   number : head .loop .line + c .lines-between .result ≡ lineOf (entry .args .comment .now) (placedOf item .place)
   number =
       let l = head .loop in
-      carried-number (named (entry .args .reading)) (entry .args .comment .now) (l .st) (l .place) (l .line) (l .inv .1) (l .inv .0 .reached) item after given-event _ at-place (c .lines-between .result) (c .lines-between .ensures)
+      carried-number (rd head) (entry .args .comment .now) (l .st) (l .place) (l .line) (l .inv .1) (l .inv .0 .reached) item after given-event _ at-place (c .lines-between .result) (c .lines-between .ensures)
       ∙ ap (lineOf (entry .args .comment .now)) at-place
 
   carried : Carried (entry .args .comment .now) after (c .before .placed .result .place) (head .loop .line + c .lines-between .result)
   carried =
       let l = head .loop in
-      carried-on (named (entry .args .reading)) (entry .args .comment .now) (l .st) (l .place) (l .line) (l .inv .1) (l .inv .0 .reached) item after given-event _ at-place (c .lines-between .result) (c .lines-between .ensures)
+      carried-on (rd head) (entry .args .comment .now) (l .st) (l .place) (l .line) (l .inv .1) (l .inv .0 .reached) item after given-event _ at-place (c .lines-between .result) (c .lines-between .ensures)
 
 add-number : tie.Need-add-number Inv-loop μ-loop
 add-number c =
@@ -129,8 +137,8 @@ loop-again c =
       along-on (l .inv .0) says e,
       carried k,
       omega arith,
-      gather-on (length (a .buffer .now)) (waiting (l .written) (l .buffer)) (eventLine (item k) (lineOf (a .comment .now) (placedOf (item k) .place))) (linesFrom (named (a .reading)) (a .comment .now) (after k))
-          (lines-on (named (a .reading)) (a .comment .now) (l .st) (item k) (after k) (given-event k))
+      gather-on (length (a .buffer .now)) (waiting (l .written) (l .buffer)) (eventLine (item k) (lineOf (a .comment .now) (placedOf (item k) .place))) (linesFrom (rd (head k)) (a .comment .now) (after k))
+          (lines-on (rd (head k)) (a .comment .now) (l .st) (item k) (after k) (given-event k))
           (rw (number k, l .inv .2) at (c .before .before .before .put-line .ensures)) (l .inv .3),
     )
 

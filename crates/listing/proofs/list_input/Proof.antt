@@ -1,4 +1,4 @@
--- `main` is safe: an input that is not refused has as many bytes as the room, or fewer.
+-- `list_input` is safe: an input that is not refused has as many bytes as the room, or fewer.
 -- Assumes nothing.
 use Prim.Native.Nat.{_≤_}
 use mathlib.Core.Path.{sym, ap, _∙_}
@@ -7,8 +7,8 @@ use lib.Seq.{length-take-le}
 use Rattle.records.specs.Answer.{checkedAnswer, inputLimit}
 use Rattle.records.proofs.Answers.{input-accepted}
 use borrow.Author.Needs.{needs}
-use Rattle.listing.proofs.main.Statement.{statement}
-use Rattle.listing.proofs.main.Tie as tie
+use Rattle.listing.proofs.list_input.Statement.{statement}
+use Rattle.listing.proofs.list_input.Tie as tie
 
 large-buffer-requires : tie.Need-large-buffer-requires
 large-buffer-requires c κs = search needs
@@ -88,8 +88,8 @@ returns-2 c = search needs
 returns-3 : tie.Need-returns-3
 returns-3 c = search needs
 
-pub main-spec : {M : Type 1} → statement M
-main-spec =
+pub list-input-spec : {M : Type 1} → statement M
+list-input-spec =
     tie.close
     (tie.spec
     large-buffer-requires
