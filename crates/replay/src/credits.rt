@@ -143,7 +143,7 @@ fn emit_credits(
 
 // The steps are made twice, as for S.
 pub fn stepping(h: Header, payload: &[u8], output: Output, out: &mut [u8]) -> Told {
-    let Named::Is(reading) = reading_of(h) else {
+    let Named::Is(reading) = reading_of(h.reading) else {
         return no_case(output);
     };
     match ParentheticalState::new(reading, payload, h.a as usize, h.b as usize) {

@@ -54,8 +54,8 @@ pub enum Named {
 }
 
 // 0 names the Rust's reading, 1 the strict one.
-pub fn reading_of(h: Header) -> Named {
-    match h.reading {
+pub fn reading_of(number: u8) -> Named {
+    match number {
         0 => Named::Is(Reading::Rust),
         1 => Named::Is(Reading::Strict),
         _ => Named::IsNone,

@@ -102,7 +102,7 @@ fn with_words(
 ) -> Told
     requires { ⌜ Lent tables × Areas (length (now names)) (length (now ends)) ⌝ }
 {
-    let Named::Is(reading) = reading_of(h) else {
+    let Named::Is(reading) = reading_of(h.reading) else {
         return no_case(output);
     };
     fill_words(words);

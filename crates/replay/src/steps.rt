@@ -132,7 +132,7 @@ pub fn stepping(h: Header, payload: &[u8], output: Output, out: &mut [u8]) -> To
     if payload.len() < 40 {
         return no_case(output);
     }
-    let Named::Is(reading) = reading_of(h) else {
+    let Named::Is(reading) = reading_of(h.reading) else {
         return no_case(output);
     };
     let Words::Are(state) = read_state(reading, payload) else {
@@ -186,7 +186,7 @@ pub fn own_unescaping(
     if payload.len() < 40 {
         return no_case(output);
     }
-    let Named::Is(reading) = reading_of(h) else {
+    let Named::Is(reading) = reading_of(h.reading) else {
         return no_case(output);
     };
     let Words::Are(state) = read_state(reading, payload) else {

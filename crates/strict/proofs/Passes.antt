@@ -241,4 +241,3 @@ module _ (s : List ℕ) (st : ParserState) (from : ℕ) (o : InMath s st) (below
 
   pub math-pass : from ≤ length s → MathR (pass strict s st from)
   math-pass h = pass-by strict s st from MathQ MathR math-act (λ p k l. math-unmarked (length s) (length s) h) (le-refl from)
-

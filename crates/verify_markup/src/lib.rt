@@ -88,7 +88,20 @@ pub fn verify_markup_without_bibliography(
         ⌜ now (out .exit) ≡ checkLeft (named reading) (now (buf .entry)) start end t (now (out .entry)) ⌝ }
 {
     let tags = TagLookup::LookedUp;
-    check(reading, buf, start, end, sb, se, lb, le, tags, b"", &[], out)
+    check(
+        reading,
+        buf,
+        start,
+        end,
+        sb,
+        se,
+        lb,
+        le,
+        tags,
+        b"",
+        &[],
+        out,
+    )
 }
 
 // The same for one who has no bibliography on purpose: tags are not looked up.
@@ -111,5 +124,18 @@ pub fn verify_markup_no_tag_lookup(
         ⌜ now (out .exit) ≡ checkLeft (named reading) (now (buf .entry)) start end t (now (out .entry)) ⌝ }
 {
     let tags = TagLookup::NotLookedUp;
-    check(reading, buf, start, end, sb, se, lb, le, tags, b"", &[], out)
+    check(
+        reading,
+        buf,
+        start,
+        end,
+        sb,
+        se,
+        lb,
+        le,
+        tags,
+        b"",
+        &[],
+        out,
+    )
 }

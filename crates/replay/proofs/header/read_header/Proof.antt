@@ -10,6 +10,9 @@ shared-slice-read-t3 c = search needs
 shared-slice-read-t5 : tie.Need-shared-slice-read-t5
 shared-slice-read-t5 c = search needs
 
+shared-slice-read-t7 : tie.Need-shared-slice-read-t7
+shared-slice-read-t7 c = search needs
+
 word-requires : tie.Need-word-requires
 word-requires c κs = search needs
 
@@ -34,6 +37,7 @@ read-header-spec =
     (tie.spec
     shared-slice-read-t3
     shared-slice-read-t5
+    shared-slice-read-t7
     word-requires
     word-requires-2
     word-requires-3
