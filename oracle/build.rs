@@ -1,9 +1,10 @@
 //! Cuts the Rust that the oracle runs out of the source files of metamath-rs 0.3.9 and writes it to OUT_DIR, where the
-//! modules of src/ include it. None of that text stands in this repository: only the line starts to cut by.
+//! modules of src/ include it. None of that text stands in this repository: only the line starts to cut by, and the
+//! few words that the strict reading changes.
 //!
 //! Reads   ORACLE_SRC    folder of the source files, seen from this folder (default: ../../shared/docs/src)
 //!         ORACLE_BREAK  for compare's self-test: `file TAB anchor TAB old TAB new`, one change to a cut file
-//! Refuses a source file that is missing or is not the one known here, and a cut that does not fit.
+//! Refuses a source file that is missing or is not the one known here, and a cut or a change that does not fit.
 use std::path::{Path, PathBuf};
 use std::{env, fs, process};
 
@@ -30,6 +31,27 @@ const DIAGNOSTICS: [&str; 10] = [
     "UnclosedHtml",
 ];
 
+/// What of the comment parser looks at the reading, by its blocks' first lines.
+const PARSER_AND_SEARCH: [&str; 6] = [
+    "pub struct CommentParser<'a> {",
+    "impl<'a> CommentParser<'a> {",
+    "impl<'a> Iterator for CommentParser<'a> {",
+    "pub struct ParentheticalIter<'a> {",
+    "impl<'a> ParentheticalIter<'a> {",
+    "impl<'a> Iterator for ParentheticalIter<'a> {",
+];
+
+/// The strict reading's changes, and no other: what stands there once, and what takes its place.
+const STRICT: [(&str, &str); 4] = [
+    // a subscript can't begin with one of the four bytes, and ends at one
+    ("contains(c) {\n            return", "contains(c) || BARRED.contains(c) {\n            return"),
+    ("contains(c) {\n                break", "contains(c) || BARRED.contains(c) {\n                break"),
+    // an italic whose end is looked for past one of them does not open
+    ("get(end)?", "get(end).filter(|c| !BARRED.contains(c))?"),
+    // an opening parenthesis bars the author
+    ("[^,)]", "[^,()]"),
+];
+
 fn main() {
     println!("cargo:rerun-if-env-changed=ORACLE_SRC");
     println!("cargo:rerun-if-env-changed=ORACLE_BREAK");
@@ -39,6 +61,7 @@ fn main() {
 
     let parser = text("src--src--comment_parser.rs.txt");
     put("comment_parser.rs", without_inner_docs(&parser));
+    put("strict_parser.rs", made_strict(PARSER_AND_SEARCH.map(|begins| block(&parser, begins)).concat()));
 
     let statement = text("src--src--statement.rs.txt");
     let span = [
@@ -122,6 +145,17 @@ fn block(text: &str, begins: &str) -> String {
 /// Included text may not hold the comments of its own file's head.
 fn without_inner_docs(text: &str) -> String {
     text.lines().filter(|l| !l.starts_with("//!")).map(|l| format!("{l}\n")).collect()
+}
+
+/// The text with the strict reading's changes made.
+fn made_strict(mut text: String) -> String {
+    for (old, new) in STRICT {
+        if text.matches(old).count() != 1 {
+            refuse(&format!("strict reading: not exactly one '{old}' to change"));
+        }
+        text = text.replace(old, new);
+    }
+    text
 }
 
 /// Writes a cut file, broken first if ORACLE_BREAK says so.

@@ -1,4 +1,5 @@
 //! A case: its header and payload, how it is read and written, and what makes it none (REPLAY.md).
+use crate::readings::Reading;
 use crate::states::STATE_BYTES;
 use std::io::{self, ErrorKind, Read, Write};
 
@@ -12,6 +13,10 @@ pub const MOST_TEXT: u32 = 65_536;
 pub const NO_TAG_LOOKUP: u8 = 1;
 /// Op C's flags: the check with the lent bibliography or without one, and the named choice.
 pub const CHECK_FLAGS: [u8; 2] = [0, NO_TAG_LOOKUP];
+/// The ops whose byte 2 is the reading.
+pub const READING_OPS: &[u8] = b"ESVPQCH";
+/// Byte 2 of the strict reading. The Rust's is 0.
+pub const STRICT: u8 = 1;
 
 const HEADER_BYTES: usize = 24;
 
@@ -19,6 +24,10 @@ const HEADER_BYTES: usize = 24;
 pub struct Case {
     pub op: u8,
     pub flag: u8,
+    /// Byte 2: the reading, where the op has one.
+    pub reading: u8,
+    /// Byte 3: nowhere looked at.
+    pub spare: u8,
     pub a: u32,
     pub b: u32,
     pub c: u32,
@@ -46,6 +55,7 @@ impl Case {
         let word = |at: usize| u32::from_le_bytes([head[at], head[at + 1], head[at + 2], head[at + 3]]);
         self.op = head[0];
         self.flag = head[1];
+        (self.reading, self.spare) = (head[2], head[3]);
         (self.a, self.b, self.c, self.room) = (word(4), word(8), word(12), word(16));
         let length = word(20);
         if length > self.most_bytes() || !self.header_fits(length) {
@@ -62,12 +72,22 @@ impl Case {
         let mut head = [0; HEADER_BYTES];
         head[0] = self.op;
         head[1] = self.flag;
+        (head[2], head[3]) = (self.reading, self.spare);
         let words = [self.a, self.b, self.c, self.room, self.payload.len() as u32];
         for (i, word) in words.iter().enumerate() {
             head[4 + 4 * i..8 + 4 * i].copy_from_slice(&word.to_le_bytes());
         }
         out.write_all(&head)?;
         out.write_all(&self.payload)
+    }
+
+    /// The reading of a case of the ops that have one.
+    pub fn reading(&self) -> Reading {
+        if self.reading == STRICT {
+            Reading::Strict
+        } else {
+            Reading::Rust
+        }
     }
 
     fn most_bytes(&self) -> u32 {
@@ -80,6 +100,9 @@ impl Case {
 
     /// Is the header one of a case? `length` is the payload's.
     fn header_fits(&self, length: u32) -> bool {
+        if READING_OPS.contains(&self.op) && self.reading > STRICT {
+            return false;
+        }
         match self.op {
             b'T' => self.flag == 0 || self.flag <= 3 && self.a <= self.most_ends() && self.a * 4 <= length,
             b'E' | b'P' | b'H' => self.room <= MOST_WORDS,

@@ -14,29 +14,38 @@ pub struct Fields {
     pub end_subscript: usize,
 }
 
-impl<'a> CommentParser<'a> {
-    /// A parser in any state, over the buffer up to its end.
-    pub fn forged(buf: &'a [u8], f: Fields) -> Self {
-        Self {
-            buf,
-            pos: f.pos,
-            math_mode: f.math_mode,
-            html_mode: f.html_mode,
-            item: f.item,
-            end_italic: f.end_italic,
-            end_subscript: f.end_subscript,
-        }
-    }
+/// For the parser of either reading, which has its fields in its own module.
+macro_rules! any_state {
+    () => {
+        impl<'a> CommentParser<'a> {
+            /// A parser in any state, over the buffer up to its end.
+            pub fn forged(buf: &'a [u8], f: Fields) -> Self {
+                Self {
+                    buf,
+                    pos: f.pos,
+                    math_mode: f.math_mode,
+                    html_mode: f.html_mode,
+                    item: f.item,
+                    end_italic: f.end_italic,
+                    end_subscript: f.end_subscript,
+                }
+            }
 
-    /// The state as it stands.
-    pub fn fields(&self) -> Fields {
-        Fields {
-            pos: self.pos,
-            math_mode: self.math_mode,
-            html_mode: self.html_mode,
-            item: self.item,
-            end_italic: self.end_italic,
-            end_subscript: self.end_subscript,
+            /// The state as it stands.
+            pub fn fields(&self) -> Fields {
+                Fields {
+                    pos: self.pos,
+                    math_mode: self.math_mode,
+                    html_mode: self.html_mode,
+                    item: self.item,
+                    end_italic: self.end_italic,
+                    end_subscript: self.end_subscript,
+                }
+            }
         }
-    }
+    };
 }
+
+any_state!();
+
+pub mod strict;

@@ -1,6 +1,6 @@
 //! Two runs' answers held against each other, case by case, and counted by op, answer, and kind of what was answered.
 use crate::answers::hex;
-use crate::cases::{Case, Next, NO_TAG_LOOKUP};
+use crate::cases::{Case, Next, NO_TAG_LOOKUP, READING_OPS};
 use std::collections::BTreeMap;
 
 /// How many answers there were of each sort: op, what is counted, its value.
@@ -106,6 +106,9 @@ fn count(tally: &mut Tally, case: &Case, tags: &str, answer: &[u8]) {
         return add("bad case", "1");
     }
     add("answer", head[1]);
+    if READING_OPS.contains(&(op as u8)) {
+        add("reading", &case.reading.to_string());
+    }
     // fields of the head line that are worth counting, by op and answer
     let fields: &[(&'static str, usize)] = match (op, head[1]) {
         ('L' | 'R' | 'K' | 'O', "0") => &[("value", 2)],
@@ -171,9 +174,10 @@ impl Difference {
         let c = &self.case;
         let mut text = format!("difference in {stream}, case {}\n", self.number);
         text += &format!(
-            "  op {}, flag {}, a {}, b {}, c {}, room {}, n {}\n",
+            "  op {}, flag {}, byte 2 {}, a {}, b {}, c {}, room {}, n {}\n",
             c.op.escape_ascii(),
             c.flag,
+            c.reading,
             c.a,
             c.b,
             c.c,

@@ -1,5 +1,5 @@
 //! The comment parser and comment check of metamath-rs 0.3.9 behind the replay format (REPLAY.md).
-//! The first five modules include what build.rs cut out of the crate; the rest is ours.
+//! The first five modules include what build.rs cut out of the crate, two of them once more for the strict reading; the rest is ours.
 pub mod comment_parser;
 pub mod diag;
 pub mod parser;
@@ -15,6 +15,7 @@ pub mod held;
 pub mod lent;
 pub mod lines;
 pub mod ops;
+pub mod readings;
 pub mod rooms;
 pub mod states;
 pub mod tables;

@@ -1,15 +1,16 @@
 //! What each op answers. Refusals come first and are document 01's; where none applies the crate is called.
 use crate::answers::{self, line, Out};
 use crate::cases::{Case, NO_TAG_LOOKUP};
-use crate::comment_parser::{CommentItem, CommentParser, Date, Discouragements, Parenthetical, ParentheticalIter};
+use crate::comment_parser::{CommentItem, Date, Discouragements, Parenthetical};
 use crate::diag::Diagnostic;
 use crate::lent::{Bibliography, Database};
 use crate::lines::Lines;
 use crate::parser::is_valid_label;
+use crate::readings::{check_comment, Parentheticals, Parser};
 use crate::rooms::{lay, write_text};
 use crate::states::{event_words, State, STATE_BYTES};
 use crate::tables::{Names, Tables};
-use crate::verify_markup::{check_comment, is_reserved_name};
+use crate::verify_markup::is_reserved_name;
 use crate::Span;
 
 /// Answers one case; `None` if it is none.
@@ -50,7 +51,8 @@ fn events(case: &Case, out: &mut Out) {
     let buf = &case.payload;
     let Some(span) = span_of(case, buf) else { return line(out, "E", &[2, 0]) };
     let lines = Lines::of(buf);
-    let list: Vec<_> = CommentParser::new(buf, span).map(event_words).map(|words| lines.record(words)).collect();
+    let events = Parser::new(case.reading(), buf, span);
+    let list: Vec<_> = events.map(event_words).map(|words| lines.record(words)).collect();
     answers::list(out, "E", &lay(&list, case.room));
 }
 
@@ -62,7 +64,7 @@ fn steps(case: &Case, out: &mut Out) -> Option<()> {
     if case.c > 0 && !state.fits(buf) {
         answer = 3;
     } else if case.c > 0 {
-        let mut parser = state.parser(buf);
+        let mut parser = state.parser(case.reading(), buf);
         for _ in 0..case.c {
             match parser.next() {
                 Some(item) => given.extend(event_words(item)),
@@ -95,17 +97,18 @@ fn parenthetical_words((whole, item): (Span, Parenthetical)) -> [u32; 7] {
 
 fn parentheticals(case: &Case, out: &mut Out) {
     let Some(span) = span_of(case, &case.payload) else { return line(out, "P", &[2, 0]) };
-    let list: Vec<[u32; 7]> = ParentheticalIter::new(&case.payload, span).map(parenthetical_words).collect();
+    let found = Parentheticals::new(case.reading(), &case.payload, span);
+    let list: Vec<[u32; 7]> = found.map(parenthetical_words).collect();
     answers::list(out, "P", &lay(&list, case.room));
 }
 
 fn parentheticals_by_step(case: &Case, out: &mut Out) {
     let Some(span) = span_of(case, &case.payload) else { return line(out, "Q", &[2, 0, 0]) };
-    let mut iter = ParentheticalIter::new(&case.payload, span);
+    let mut search = Parentheticals::new(case.reading(), &case.payload, span);
     let mut given: Vec<u32> = vec![];
     let mut ended = 0;
     for _ in 0..case.c {
-        match iter.next() {
+        match search.next() {
             Some(item) => given.extend(parenthetical_words(item)),
             None => {
                 ended = 1;
@@ -199,7 +202,7 @@ fn parser_unescape(case: &Case, out: &mut Out) -> Option<()> {
         line(out, "V", &[3]);
         return Some(());
     }
-    let parser = state.parser(buf);
+    let parser = state.parser(case.reading(), buf);
     let mut plain = vec![];
     match case.flag {
         0 => parser.unescape_text(span, &mut plain),
@@ -249,7 +252,7 @@ fn check(case: &Case, tables: &Tables, out: &mut Out) {
     let empty = Names::default();
     let tags = tables.bibliography.as_ref().unwrap_or(&empty);
     let bib = looks_up_tags.then_some(Bibliography(tags));
-    let found = check_comment(&db, bib.as_ref(), buf, span);
+    let found = check_comment(case.reading(), &db, bib.as_ref(), buf, span);
     let lines = Lines::of(buf);
     let list: Vec<_> = found.iter().map(diagnostic_words).map(|words| lines.record(words)).collect();
     answers::list(out, "C", &lay(&list, case.room));
@@ -272,6 +275,7 @@ fn links(case: &Case, tables: &Tables, out: &mut Out) {
     if let Some(entry) = labels.first_bad() {
         return line(out, "H", &[4, 1, entry as u32]);
     }
-    let list: Vec<[u32; 3]> = CommentParser::new(buf, span).filter_map(|item| link_words(item, buf, labels)).collect();
+    let events = Parser::new(case.reading(), buf, span);
+    let list: Vec<[u32; 3]> = events.filter_map(|item| link_words(item, buf, labels)).collect();
     answers::list(out, "H", &lay(&list, case.room));
 }

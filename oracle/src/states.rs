@@ -1,5 +1,6 @@
 //! Events as four words, without a line, and parser states as the ten words of ops S and V.
-use crate::comment_parser::{CommentItem, CommentParser, Fields};
+use crate::comment_parser::{CommentItem, Fields};
+use crate::readings::{Parser, Reading};
 use crate::Span;
 
 /// Bytes of a state at the head of a payload.
@@ -85,13 +86,13 @@ impl State {
         self.fields.pos <= self.end as usize && self.end as usize <= buf.len()
     }
 
-    /// The crate's parser in this state, which has to fit.
-    pub fn parser<'a>(&self, buf: &'a [u8]) -> CommentParser<'a> {
-        CommentParser::forged(&buf[..self.end as usize], self.fields)
+    /// A reading's parser in this state, which has to fit.
+    pub fn parser<'a>(&self, reading: Reading, buf: &'a [u8]) -> Parser<'a> {
+        Parser::forged(reading, &buf[..self.end as usize], self.fields)
     }
 
     /// The state that a parser is in; its end stays.
-    pub fn after(&self, parser: &CommentParser<'_>) -> Self {
+    pub fn after(&self, parser: &Parser<'_>) -> Self {
         Self { end: self.end, fields: parser.fields() }
     }
 

@@ -14,9 +14,18 @@ pub fn is_reserved_name(name: &[u8]) -> bool {
     windows_reserved_names().is_match(name)
 }
 
-/// The diagnostics of a span, in order.
-pub fn check_comment(db: &Database, bib: Option<&Bibliography>, buf: &[u8], span: Span) -> Vec<Diagnostic> {
-    let mut found = vec![];
-    verify_markup_comment(db, bib, buf, span, |d| found.push(d));
-    found
+/// For the check of either reading, which is its own module's.
+macro_rules! whole_check {
+    () => {
+        /// The diagnostics of a span, in order.
+        pub fn check_comment(db: &Database, bib: Option<&Bibliography>, buf: &[u8], span: Span) -> Vec<Diagnostic> {
+            let mut found = vec![];
+            verify_markup_comment(db, bib, buf, span, |d| found.push(d));
+            found
+        }
+    };
 }
+
+whole_check!();
+
+pub mod strict;

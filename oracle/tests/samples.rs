@@ -1,5 +1,5 @@
 //! The samples of document 01, marked or not, run through the oracle.
-use oracle::cases::{Case, NO_TAG_LOOKUP};
+use oracle::cases::{Case, NO_TAG_LOOKUP, STRICT};
 use oracle::gen::sink::table;
 use oracle::{ops, tables::Tables};
 
@@ -163,4 +163,41 @@ fn links_of_a_comment() {
     links(&[3], "mmx", "~ mmx", &[]);
     links(&[0, 1], "a", "~", &["1 1 0"]);
     links(&[1], "a", "~", &[]);
+}
+
+/// The records of a whole text in both readings.
+fn in_both(op: u8, text: &str, rust: &[&str], strict: &[&str]) {
+    for (reading, want) in [(0, rust), (STRICT, strict)] {
+        let case = Case { reading, ..span_case(op, text, 0, text.len()) };
+        assert_eq!(records_of(&run(&case), op, text), want, "{text:?}, reading {reading}");
+    }
+}
+
+/// Request P8's: the Rust's reading, and the strict one.
+#[test]
+fn events_in_both_readings() {
+    let start = ["1 0 0 1 1", "10 1 1 1 1"];
+    let math = ["1 2 2 3 1", "3 3 3 3 1", "5 4 4 5 1", "11 5 5 5 1", "5 5 5 7 1", "4 7 7 7 1"];
+    let strict_math = ["1 2 2 3 1", "11 3 3 3 1", "3 3 3 3 1", "5 4 4 7 1", "4 7 7 7 1"];
+    in_both(b'E', "x_0`b.c`", &[&start[..], &math].concat(), &[&start[..], &strict_math].concat());
+    in_both(b'E', "x_[a]", &[&start[..], &["14 3 3 4 1"]].concat(), &["1 0 0 2 1", "14 3 3 4 1"]);
+    in_both(b'E', "a_~b", &[&start[..], &["6 2 3 4 1"]].concat(), &["1 0 0 2 1", "6 2 3 4 1"]);
+    in_both(b'E', "x_<HTML>", &[&start[..], &["8 2 2 2 1"]].concat(), &["1 0 0 2 1", "8 2 2 2 1"]);
+    let (doubled, strict_doubled) = (["1 2 2 6 1", "11 6 6 6 1"], ["1 2 2 3 1", "11 3 3 3 1", "1 3 3 6 1"]);
+    in_both(b'E', "x_a``b", &[&start[..], &doubled].concat(), &[&start[..], &strict_doubled].concat());
+    let label = ["1 0 0 1 1", "12 1 1 1 1", "1 2 2 3 1", "6 3 4 6 1", "1 6 6 7 1"];
+    in_both(b'E', " _a~b_ ", &label, &["1 0 0 3 1", "6 3 4 6 1", "1 6 6 7 1"]);
+    let italic = ["1 0 0 1 1", "12 1 1 1 1", "1 2 2 5 1", "13 5 5 5 1", "1 6 6 7 1"];
+    in_both(b'E', " _a<b_ ", &italic, &["1 0 0 7 1"]);
+}
+
+/// Ann's credit is open: in the strict reading Bob's is found, and hers is not.
+#[test]
+fn credits_in_both_readings() {
+    let slipped = "(Contributed by Ann (Revised by Bob, 2-Feb-2020.)";
+    in_both(b'P', slipped, &["1 0 49 16 35 37 47"], &["2 20 49 32 35 37 47"]);
+    let longer = "(Contributed by Ann (Revised by Bob, 12-Mar-2020.)";
+    in_both(b'P', longer, &["1 0 50 16 35 37 48"], &["2 20 50 32 35 37 48"]);
+    let closed = "(Contributed by Ann, 2-Feb-2020.)";
+    in_both(b'P', closed, &["1 0 33 16 19 21 31"], &["1 0 33 16 19 21 31"]);
 }

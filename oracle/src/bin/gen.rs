@@ -1,10 +1,10 @@
 //! gen: writes cases (REPLAY.md), the same at every run.
-//!   gen list OPS                            names of the streams whose every op is among OPS, and `mm` where one reads a database
+//!   gen list OPS                            the streams whose every op is among OPS, in each of their readings; `mm` where one reads a database
 //!   gen stream NAME [--long] [--mm FILE]    the cases of a stream, to standard output
 //!   gen stored OPS                          the stored cases of these ops, to standard output
 //!   gen bad OPS DIR                         bad inputs for these ops, each a file DIR/NAME.case
 //! Refuses (status 2) other words, an unknown stream, a database that cannot be read, and a stream that needs one and has none.
-use oracle::gen::{bad, database::Mm, sink::Sink, stored, streams_for, Plan, STREAMS};
+use oracle::gen::{bad, database::Mm, find, sink::Sink, stored, streams_for, Plan};
 use std::io::{self, BufWriter, Write};
 
 fn main() -> io::Result<()> {
@@ -14,7 +14,9 @@ fn main() -> io::Result<()> {
     match words[..] {
         ["list", ops] => {
             for stream in streams_for(ops) {
-                writeln!(out, "{}{}", stream.name, if stream.reads_mm { "\tmm" } else { "" })?;
+                for &reading in stream.readings() {
+                    writeln!(out, "{}{}", stream.name_in(reading), if stream.reads_mm { "\tmm" } else { "" })?;
+                }
             }
         }
         ["stream", name, ref rest @ ..] => stream(name, rest, &mut out)?,
@@ -45,7 +47,7 @@ fn stream(name: &str, options: &[&str], out: &mut dyn Write) -> io::Result<()> {
             _ => refuse(&format!("{option}: not known")),
         }
     }
-    let Some(stream) = STREAMS.iter().find(|s| s.name == name) else { refuse(&format!("{name}: no such stream")) };
+    let Some((stream, reading)) = find(name) else { refuse(&format!("{name}: no such stream")) };
     let mm = match mm {
         Some(path) if stream.reads_mm => match std::fs::read(path) {
             Ok(text) => Some(Mm::read(&text)),
@@ -54,7 +56,7 @@ fn stream(name: &str, options: &[&str], out: &mut dyn Write) -> io::Result<()> {
         None if stream.reads_mm => refuse(&format!("{name} reads a database: --mm FILE")),
         _ => None,
     };
-    (stream.make)(&Plan { long, mm: mm.as_ref() }, &mut Sink::new(name, out));
+    stream.put(reading, &Plan { long, mm: mm.as_ref() }, out);
     Ok(())
 }
 

@@ -1,7 +1,7 @@
 //! Inputs that are no run of cases: each ends its run with `bad case`, so each is an input of its own.
 use super::sink::{span_case, table};
 use super::stepping::state_bytes;
-use crate::cases::{Case, MOST_TEXT, MOST_WORDS};
+use crate::cases::{Case, MOST_TEXT, MOST_WORDS, READING_OPS, STRICT};
 
 /// A name, the ops that a program has to know for it, and the input.
 pub struct Bad {
@@ -43,9 +43,10 @@ pub fn inputs() -> Vec<Bad> {
             add("LT", &format!("table-{flag}-cut-at-{length}"), lent[..length].to_vec(), b"");
         }
     }
-    for case in no_cases() {
-        let ops = OPS.iter().find(|(op, _)| *op == case.1.op).expect("a known op").1;
-        add(ops, case.0, bytes_of(&case.1), &good);
+    for (name, case) in no_cases() {
+        let ops = OPS.iter().find(|(op, _)| *op == case.op).expect("a known op").1;
+        let strict = if case.reading == STRICT { "-strict" } else { "" };
+        add(ops, &format!("{name}{strict}"), bytes_of(&case), &good);
     }
     all
 }
@@ -113,7 +114,15 @@ fn no_cases() -> Vec<(&'static str, Case)> {
         ("flag-4", Case { op: b'V', flag: 4, payload: state(0, 2), ..Case::default() }),
         ("room-over", Case { op: b'V', room: MOST_TEXT + 1, payload: state(0, 2), ..Case::default() }),
     ];
-    for op in [b'S', b'V'] {
+    // a reading that is none, of each op that has one; the rest of the case is good
+    for &op in READING_OPS {
+        let payload = if matches!(op, b'S' | b'V') { state(0, 2) } else { b"ab".to_vec() };
+        for (name, reading) in [("reading-2", 2), ("reading-128", 128), ("reading-255", 255)] {
+            cases.push((name, Case { op, reading, b: 2, room: 64, payload: payload.clone(), ..Case::default() }));
+        }
+    }
+    // states that are none, in the strict reading too
+    for (op, reading) in [(b'S', 0), (b'V', 0), (b'S', STRICT), (b'V', STRICT)] {
         for (name, payload) in [
             ("math-2", state(2, 2)),
             ("html-2", state(3, 2)),
@@ -126,7 +135,7 @@ fn no_cases() -> Vec<(&'static str, Case)> {
             ("place-with-another-end", waiting([2, 1, 1, 2])),
             ("place-with-another-start", waiting([13, 1, 0, 1])),
         ] {
-            cases.push((name, Case { op, c: 0, payload, ..Case::default() }));
+            cases.push((name, Case { op, reading, c: 0, payload, ..Case::default() }));
         }
     }
     cases

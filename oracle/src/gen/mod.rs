@@ -1,4 +1,5 @@
 //! The case generator: named streams, each for one op (and T, where the op needs tables), the same at every run.
+//! A stream of an op that has a reading runs in both: in the strict one under its name with `-strict` behind.
 //! A new op gets a file here, its streams in `STREAMS`, its lines in promises.txt and its cases in stored.rs.
 pub mod bad;
 pub mod checking;
@@ -23,8 +24,11 @@ pub mod stored_tables;
 pub mod texts;
 pub mod unescaping;
 
+use crate::cases::READING_OPS;
+use crate::readings::Reading;
 use database::Mm;
 use sink::Sink;
+use std::io::Write;
 
 /// What a run of the generator is given.
 pub struct Plan<'a> {
@@ -51,6 +55,33 @@ pub struct Stream {
     pub ops: &'static str,
     pub reads_mm: bool,
     pub make: fn(&Plan, &mut Sink),
+}
+
+/// What a stream's name ends with in the strict reading.
+const STRICT_NAME: &str = "-strict";
+
+impl Stream {
+    /// The readings that it runs in.
+    pub fn readings(&self) -> &'static [Reading] {
+        if self.ops.bytes().any(|op| READING_OPS.contains(&op)) {
+            &[Reading::Rust, Reading::Strict]
+        } else {
+            &[Reading::Rust]
+        }
+    }
+
+    /// Its name in a reading.
+    pub fn name_in(&self, reading: Reading) -> String {
+        match reading {
+            Reading::Rust => self.name.to_string(),
+            Reading::Strict => format!("{}{STRICT_NAME}", self.name),
+        }
+    }
+
+    /// Makes its cases. The numbers by chance are those of its own name, so they are the same in both readings.
+    pub fn put(&self, reading: Reading, plan: &Plan, out: &mut dyn Write) {
+        (self.make)(plan, &mut Sink::of_stream(self.name, reading, out));
+    }
 }
 
 const fn plain(name: &'static str, ops: &'static str, make: fn(&Plan, &mut Sink)) -> Stream {
@@ -132,4 +163,10 @@ pub const STREAMS: &[Stream] = &[
 /// The streams whose every op is among these.
 pub fn streams_for(ops: &str) -> impl Iterator<Item = &'static Stream> + '_ {
     STREAMS.iter().filter(move |s| s.ops.chars().all(|op| ops.contains(op)))
+}
+
+/// The stream of this name, and the reading that the name says.
+pub fn find(name: &str) -> Option<(&'static Stream, Reading)> {
+    let mut in_each = STREAMS.iter().flat_map(|stream| stream.readings().iter().map(move |&reading| (stream, reading)));
+    in_each.find(|(stream, reading)| stream.name_in(*reading) == name)
 }

@@ -1,31 +1,70 @@
-//! Where cases go: writes them, keeps track of the lent tables, and chooses rooms around what a call needs.
+//! Where cases go: puts them in the reading, writes them, keeps track of the lent tables, and chooses rooms around what a
+//! call needs.
 use super::random::Rng;
-use crate::cases::{Case, MOST_TEXT, MOST_WORDS};
+use crate::cases::{Case, MOST_TEXT, MOST_WORDS, READING_OPS, STRICT};
 use crate::lines::LINED_WIDTH;
 use crate::ops;
+use crate::readings::Reading;
 use crate::tables::Tables;
 use std::io::Write;
+
+/// What a stream now and then has in header bytes that are not looked at: byte 2, where the op has no reading, and byte 3.
+const UNREAD: [(u8, u8); 6] = [(1, 0), (2, 0), (255, 0), (0, 1), (1, 255), (255, 255)];
+/// One case of so many has them.
+const UNREAD_EVERY: usize = 16;
 
 pub struct Sink<'a> {
     out: &'a mut dyn Write,
     tables: Tables,
+    /// The reading of the whole stream.
+    pub reading: Reading,
+    /// How many cases were put; kept where bytes that are not looked at are filled now and then.
+    number: Option<usize>,
     /// The stream's own numbers.
     pub rng: Rng,
 }
 
 impl<'a> Sink<'a> {
     pub fn new(name: &str, out: &'a mut dyn Write) -> Self {
-        Self { out, tables: Tables::default(), rng: Rng::new(name) }
+        Self { out, tables: Tables::default(), reading: Reading::Rust, number: None, rng: Rng::new(name) }
     }
 
-    /// The case as it is.
+    /// For a stream: in either reading it makes the same cases, but for rooms that go by what a call needs.
+    pub fn of_stream(name: &str, reading: Reading, out: &'a mut dyn Write) -> Self {
+        Self { reading, number: Some(0), ..Self::new(name, out) }
+    }
+
+    /// The case as it is, in the stream's reading.
     pub fn put(&mut self, case: &Case) {
         if case.op == b'T' {
             self.tables.lend(case.flag, case.a, &case.payload);
         }
+        let mut case = self.in_reading(case);
+        self.fill_unread(&mut case);
         // A reader that has seen enough may close the pipe.
         if case.write(&mut self.out).is_err() {
             std::process::exit(0);
+        }
+    }
+
+    /// The case in the stream's reading, if its op has one. Where that is the Rust's the case may say another.
+    fn in_reading(&self, case: &Case) -> Case {
+        let mut case = case.clone();
+        if self.reading == Reading::Strict && READING_OPS.contains(&case.op) {
+            case.reading = STRICT;
+        }
+        case
+    }
+
+    fn fill_unread(&mut self, case: &mut Case) {
+        let Some(number) = &mut self.number else { return };
+        *number += 1;
+        if *number % UNREAD_EVERY == 0 {
+            let (second, third) = UNREAD[*number / UNREAD_EVERY % UNREAD.len()];
+            if !READING_OPS.contains(&case.op) {
+                case.reading = second;
+            }
+            case.spare = third;
         }
     }
 
@@ -55,7 +94,7 @@ impl<'a> Sink<'a> {
     /// Words or bytes that the call needs, by its own answer to room 0; 0 if it is refused.
     pub fn needed(&mut self, case: &Case) -> u32 {
         let mut out = vec![];
-        let asked = Case { room: 0, ..case.clone() };
+        let asked = Case { room: 0, ..self.in_reading(case) };
         if ops::answer(&asked, &mut self.tables, &mut out).is_none() {
             return 0;
         }

@@ -12,7 +12,7 @@ pub fn state_bytes(words: [u32; 10]) -> Vec<u8> {
     words.iter().flat_map(|w| w.to_le_bytes()).collect()
 }
 
-fn steps(words: [u32; 10], buf: &[u8], c: u32) -> Case {
+pub fn steps(words: [u32; 10], buf: &[u8], c: u32) -> Case {
     Case { op: b'S', c, payload: [&state_bytes(words)[..], buf].concat(), ..Case::default() }
 }
 
@@ -107,7 +107,7 @@ pub fn walks(plan: &Plan, sink: &mut Sink) {
         loop {
             sink.put(&steps(words, &text, 1));
             let state = State::read(&state_bytes(words)).expect("a state");
-            let mut parser = state.parser(&text);
+            let mut parser = state.parser(sink.reading, &text);
             let ended = parser.next().is_none();
             words = state.after(&parser).words();
             if ended {
