@@ -92,13 +92,13 @@ const PARTS: &[&[&[u8]]] = &[
 ];
 
 /// What a stream makes of a buffer and span.
-type Emit = fn(&mut Sink, &[u8], usize, usize);
+pub type Emit = fn(&mut Sink, &[u8], usize, usize);
 
-fn listed(sink: &mut Sink, buf: &[u8], a: usize, b: usize) {
+pub fn listed(sink: &mut Sink, buf: &[u8], a: usize, b: usize) {
     sink.put_roomed(span_case(b'P', buf, a, b));
 }
 
-fn stepped(sink: &mut Sink, buf: &[u8], a: usize, b: usize) {
+pub fn stepped(sink: &mut Sink, buf: &[u8], a: usize, b: usize) {
     let c = [1, 1, 2, 3, 1000][sink.rng.below(5)];
     sink.put(&Case { c, ..span_case(b'Q', buf, a, b) });
 }

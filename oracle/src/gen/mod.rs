@@ -19,8 +19,11 @@ pub mod stored;
 pub mod stored_comments;
 pub mod stored_lines;
 pub mod stored_links;
+pub mod stored_strict;
 pub mod stored_sweeps;
 pub mod stored_tables;
+pub mod strict;
+pub mod strict_credits;
 pub mod texts;
 pub mod unescaping;
 
@@ -115,6 +118,7 @@ pub const STREAMS: &[Stream] = &[
     plain("E-random", "E", parsing::random),
     plain("E-rooms", "E", parsing::rooms),
     plain("E-lines", "E", lines::events),
+    plain("E-readings", "E", strict::events),
     plain("E-limits", "E", limits::events),
     of_mm("E-database", "E", database::events),
     of_mm("E-mutated", "E", database::events_mutated),
@@ -123,15 +127,18 @@ pub const STREAMS: &[Stream] = &[
     plain("S-starts", "S", stepping::starts),
     plain("S-random", "S", stepping::random),
     plain("S-walks", "S", stepping::walks),
+    plain("S-readings", "S", strict::stepped),
     plain("S-limits", "S", limits::steps),
     plain("P-words", "P", credits::words_listed),
     plain("P-mutated", "P", credits::mutated_listed),
     plain("P-random", "P", credits::random_listed),
+    plain("P-readings", "P", strict_credits::credits_listed),
     plain("P-limits", "P", limits::parentheticals),
     of_mm("P-database", "P", database::parentheticals),
     of_mm("P-database-mutated", "P", database::parentheticals_mutated),
     plain("Q-words", "Q", credits::words_stepped),
     plain("Q-mutated", "Q", credits::mutated_stepped),
+    plain("Q-readings", "Q", strict_credits::credits_stepped),
     plain("Q-limits", "Q", limits::credit_steps),
     of_mm("Q-database", "Q", database::parentheticals_stepped),
     plain("F-words", "F", credits::words_flagged),
@@ -147,6 +154,7 @@ pub const STREAMS: &[Stream] = &[
     plain("C-tables", "TC", checking::tables),
     plain("C-malformed", "TC", checking::malformed),
     plain("C-lines", "TC", lines::checks),
+    plain("C-readings", "TC", strict::checks),
     plain("C-limits", "TC", limits::checks),
     of_mm("C-database", "TC", database::checks),
     of_mm("C-mutated", "TC", database::checks_mutated),
@@ -155,6 +163,7 @@ pub const STREAMS: &[Stream] = &[
     plain("H-random", "TH", links::random),
     plain("H-tables", "TH", links::tables),
     plain("H-malformed", "TH", links::malformed),
+    plain("H-readings", "TH", strict::links),
     plain("H-limits", "TH", limits::links),
     of_mm("H-database", "TH", database::links),
     of_mm("H-mutated", "TH", database::links_mutated),

@@ -4,6 +4,7 @@ use super::sink::{span_case, Sink};
 use super::stored_comments::{credits, events, flags, parser_unescaping, steps};
 use super::stored_lines as lines;
 use super::stored_links::links;
+use super::stored_strict as strict;
 use super::stored_sweeps as sweeps;
 use super::stored_tables::{checks, lookups};
 use crate::cases::Case;
@@ -44,6 +45,7 @@ pub fn put(op: u8, sink: &mut Sink) {
         b'C' => lines::checks(sink),
         _ => {}
     }
+    strict::put(op, sink);
 }
 
 /// The last case of all is none: what stands behind it has no answer.
