@@ -51,6 +51,22 @@ fn events_differ_by_the_four_bytes_alone() {
     assert!(alike > 300_000 && apart > 40_000, "{alike} alike, {apart} told apart");
 }
 
+/// Math, labels, urls, HTML marks and tags: an underscore is one byte, whether it opens something or not.
+#[test]
+fn all_other_marks_are_the_same() {
+    let mut marks = 0;
+    for case in ["E-exhaustive", "E-random", "E-readings"].into_iter().flat_map(cases) {
+        let [rust, strict] = [0, STRICT].map(|reading| {
+            let mut list = records(&answer(&case, reading));
+            list.retain(|record| [3, 4, 6, 7, 8, 9, 14].contains(&record[0]));
+            list
+        });
+        assert_eq!(rust, strict, "{}", shown(&case));
+        marks += rust.len();
+    }
+    assert!(marks > 500_000, "{marks} marks");
+}
+
 /// Exactly where an author of the Rust's list holds an opening parenthesis.
 #[test]
 fn credits_differ_by_a_parenthesis_alone() {
