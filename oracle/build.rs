@@ -151,7 +151,7 @@ fn without_inner_docs(text: &str) -> String {
 fn made_strict(mut text: String) -> String {
     for (old, new) in STRICT {
         if text.matches(old).count() != 1 {
-            refuse(&format!("strict reading: not exactly one '{old}' to change"));
+            refuse(&format!("strict reading: not exactly one {old:?} to change"));
         }
         text = text.replace(old, new);
     }
