@@ -10,15 +10,15 @@
 /* A slice of Rattle is a pointer and a count. */
 #define BUF const uint8_t *buf, size_t n, size_t start, size_t end
 #define NAMES(x) const uint8_t *x##_bytes, size_t x##_len, const uint32_t *x##_ends, size_t x##_count
-size_t call_events(BUF, uint32_t *out, size_t room);
-size_t call_parentheticals(BUF, uint32_t *out, size_t room);
+size_t call_events(_Bool strict, BUF, uint32_t *out, size_t room);
+size_t call_parentheticals(_Bool strict, BUF, uint32_t *out, size_t room);
 size_t call_unescape_text(_Bool html, BUF, uint8_t *out, size_t room);
 size_t call_unescape_label(BUF, uint8_t *out, size_t room);
 size_t call_unescape_math(BUF, uint8_t *out, size_t room);
-size_t call_verify_markup(BUF, NAMES(symbol), NAMES(label), NAMES(bib), uint32_t *out, size_t room);
-size_t call_verify_markup_without_bibliography(BUF, NAMES(symbol), NAMES(label), uint32_t *out, size_t room);
-size_t call_verify_markup_no_tag_lookup(BUF, NAMES(symbol), NAMES(label), uint32_t *out, size_t room);
-size_t call_links(BUF, NAMES(label), uint32_t *out, size_t room);
+size_t call_verify_markup(_Bool strict, BUF, NAMES(symbol), NAMES(label), NAMES(bib), uint32_t *out, size_t room);
+size_t call_verify_markup_without_bibliography(_Bool strict, BUF, NAMES(symbol), NAMES(label), uint32_t *out, size_t room);
+size_t call_verify_markup_no_tag_lookup(_Bool strict, BUF, NAMES(symbol), NAMES(label), uint32_t *out, size_t room);
+size_t call_links(_Bool strict, BUF, NAMES(label), uint32_t *out, size_t room);
 
 enum { WORDS = 655360, BYTES = 65536 };
 static uint32_t words[WORDS];
@@ -48,13 +48,13 @@ static int lend(uint8_t number, uint32_t count, const uint8_t *payload, size_t n
     return 1;
 }
 
-static size_t check(uint8_t flag, BUF, size_t room)
+static size_t check(uint8_t flag, _Bool strict, BUF, size_t room)
 {
     if (flag == 1)
-        return call_verify_markup_no_tag_lookup(buf, n, start, end, TABLE(1), TABLE(2), words, room);
+        return call_verify_markup_no_tag_lookup(strict, buf, n, start, end, TABLE(1), TABLE(2), words, room);
     if (has_bib)
-        return call_verify_markup(buf, n, start, end, TABLE(1), TABLE(2), TABLE(3), words, room);
-    return call_verify_markup_without_bibliography(buf, n, start, end, TABLE(1), TABLE(2), words, room);
+        return call_verify_markup(strict, buf, n, start, end, TABLE(1), TABLE(2), TABLE(3), words, room);
+    return call_verify_markup_without_bibliography(strict, buf, n, start, end, TABLE(1), TABLE(2), words, room);
 }
 
 static size_t unescape(uint8_t flag, BUF, size_t room)
@@ -80,6 +80,7 @@ int main(void)
         if (stop - at < 24 || stop - at - 24 < word(at + 20))
             return 2;
         uint8_t op = at[0], flag = at[1];
+        _Bool strict = at[2] == 1;
         size_t a = word(at + 4), b = word(at + 8), room = word(at + 16), n = word(at + 20);
         const uint8_t *payload = at + 24;
         at = payload + n;
@@ -87,13 +88,13 @@ int main(void)
             if (!lend(flag, a, payload, n))
                 return 2;
         } else if (op == 'E')
-            sum += call_events(payload, n, a, b, words, room ? WORDS : 0);
+            sum += call_events(strict, payload, n, a, b, words, room ? WORDS : 0);
         else if (op == 'P')
-            sum += call_parentheticals(payload, n, a, b, words, room ? WORDS : 0);
+            sum += call_parentheticals(strict, payload, n, a, b, words, room ? WORDS : 0);
         else if (op == 'C')
-            sum += check(flag, payload, n, a, b, room ? WORDS : 0);
+            sum += check(flag, strict, payload, n, a, b, room ? WORDS : 0);
         else if (op == 'H')
-            sum += call_links(payload, n, a, b, TABLE(2), words, room ? WORDS : 0);
+            sum += call_links(strict, payload, n, a, b, TABLE(2), words, room ? WORDS : 0);
         else if (op == 'U')
             sum += unescape(flag, payload, n, a, b, room ? BYTES : 0);
         else

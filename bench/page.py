@@ -14,6 +14,8 @@ GOALS = {("E", 0): (0.5, 0.25), ("P", 0): (0.2, 0.1), ("U", 0): (0.8, 0.4), ("C"
 PAGE = 133_000_000
 # The cost a byte at 65,536 bytes over that at 16,384.
 GROWTH = 1.2
+# The strict reading's count over that of the Rust's reading.
+STRICT = 1.05
 
 # Each public call (docs/CALLS.md), the C function that stands for it, and what is lent to it: the buffer of the comment, room for
 # the records or text of an op and flag, tables by number, or words.
@@ -145,6 +147,29 @@ def square_rows(squares):
     return made
 
 
+def strict_rows(facts):
+    """The strict reading beside the Rust's on set.mm: instructions a byte at either room."""
+    check = [sum(parts) for parts in facts["check"][1:]]
+    rows = {"E": facts["rows"]["E", 0][1:], "P": facts["rows"]["P", 0][1:], "C": check, "H": [sum(parts) for parts in facts["links"].values()]}
+    made = []
+    for name, op in zip(PARTS, "EPCH"):
+        over = [strict / rust for rust, strict in zip(rows[op], facts["stricts"][op])]
+        cells = [cell for rust, strict, times in zip(rows[op], facts["stricts"][op], over) for cell in (f"{rust:.2f}", f"{strict:.2f}", f"{times:.3f}")]
+        made.append([name, *cells, "reached" if max(over) <= STRICT else "**missed**"])
+    return made
+
+
+def strict_square_rows(facts):
+    """The same on the hostile texts: the strict reading's count over the Rust's, the greater of the two rooms, and its growth."""
+    made = []
+    for (pattern, _, large, _, enough), (few, whole, few_written, written) in zip(facts["squares"], facts["strict_squares"]):
+        over = [max(whole[k] / large[k], written[k] / enough[k]) for k in range(4)]
+        grown = max(growth(few, whole), growth(few_written, written))
+        said = "" if max(over) <= STRICT and grown <= GROWTH else "**missed**"
+        made.append([SHOWN.get(pattern, f"`{pattern}`"), *(f"{n:,}" for n in whole), *(f"{times:.3f}" for times in over), f"{grown:.3f}", said])
+    return made
+
+
 def written(facts):
     symbols, labels, tags = facts["entries"]
     squares = facts["squares"]
@@ -185,6 +210,14 @@ The largest comment of set.mm before a theorem ({facts['largest']:,} bytes), wit
 {table(["bytes", *PARTS, "together", "growth", "room enough, together", ""], square_rows(squares))}
 The Rust's events on the first: {facts['rust_square']:,}.
 
+## The strict reading
+
+The same comments in the strict reading, beside the Rust's reading above; at most {STRICT} times its count. The answers at room 0 are held against the crate's text with three changes (oracle/README.md).
+
+{table(["", "the Rust's, room 0", "strict", "over it", "the Rust's, room enough", "strict", "over it", ""], strict_rows(facts))}
+The hostile texts, 65,536 bytes of each: instructions in the strict reading at room 0; over those in the Rust's reading, the greater of the two rooms; and growth.
+
+{table(["bytes", *PARTS[:4], *(part + ", over" for part in PARTS[:4]), "growth", ""], strict_square_rows(facts))}
 ## Stack and lent bytes
 
 For the largest comment. Stack: the most that the compiled code can take on any input, return address included, arguments that the caller passes on the stack not (`stacks.py`). Lent bytes: all that the caller lends; the work area has 65,536.

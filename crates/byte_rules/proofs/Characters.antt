@@ -9,7 +9,7 @@ use native.Mathlib.Nat.{add-zero}
 use native.Mathlib.Omega.{arith}
 use lib.Dec.{leb, eqb}
 use lib.ListN.{length, drop, getD, List·getD-eq-default}
-use borrow.Author.Tests.{leb-true, leb-false}
+use borrow.Author.Tests.{le-leb, leb-true, leb-false}
 use Rattle.basics.proofs.Laws.{both, either}
 use Rattle.byte_rules.specs.Utf8.{byteOr, within, isTail, isOne, isTwo, isThree, isFour, charLen}
 use Rattle.byte_rules.proofs.CharLaws.{byte-in, char-from}
@@ -104,6 +104,11 @@ module _ (s : List ℕ) (i : ℕ) where
 
   pub char-fits : charLen s i ≤ length s - i
   char-fits = known .0
+
+  -- an ASCII byte is a character
+  pub char-one : i < length s → getD s i 0 < 0x80 → charLen s i ≡ 1
+  unfolding charLen isOne
+  char-one h low = rw (le-leb (byteOr s i) 0x7F (omega (arith, low, byte-in s i h)))
 
   -- no byte of a longer character is ASCII
   pub char-high : 1 < charLen s i → (k : ℕ) → i ≤ k → k < i + charLen s i → 0x80 ≤ getD s k 0

@@ -7,8 +7,11 @@ use native.Mathlib.Omega.{arith}
 use lib.Dec.{leb, eqb}
 use borrow.Author.Tests.{le-leb, leb-true, eqb-true, ne-eqb}
 use Rattle.basics.proofs.Laws.{both}
-use Rattle.byte_rules.specs.Classes.{isBlank, isDigit, isCapital, isSmall, isCreditSpace, isTextEscape, isLabelEscape, isMathEscape}
+use Rattle.byte_rules.specs.Classes.{isBlank, isCloser, isDigit, isCapital, isSmall, isAlphanumeric, isCreditSpace, isAuthorByte, isTextEscape, isLabelEscape, isMathEscape}
 use Rattle.byte_rules.specs.Names.{upper}
+use Rattle.byte_rules.specs.Reading.{barsNothing, isMark, isOpening, named}
+use Rattle.byte_rules.specs.declared.reading.Reading.{Reading as Name}
+use Rattle.byte_rules.specs.declared.reading.Reading.the-variants.{Rust, Strict}
 
 -- the blanks that are spoken of by name
 pub space-is-blank : isBlank 32 ≡ true
@@ -64,6 +67,23 @@ upper-not b c h n = go (isSmall c) refl
     go true t = let x = small-is c t in ne-eqb (c - 32) b (λ z. omega (arith, x .0, h))
     go false t = n
 
+-- the marks are a backtick, ~ [ and <, and no other byte; neither they nor `_`, which is a closer, are alphanumeric
+pub four-marks : (isMark 96 ≡ true) × (isMark 126 ≡ true) × (isMark 91 ≡ true) × (isMark 60 ≡ true)
+unfolding isMark
+four-marks = (refl, refl, refl, refl)
+
+pub no-mark : (c : ℕ) → eqb c 96 ≡ false → eqb c 126 ≡ false → eqb c 91 ≡ false → eqb c 60 ≡ false → isMark c ≡ false
+unfolding isMark
+no-mark c tick tilde bracket less = rw (tick, tilde, bracket, less)
+
+pub under-is-closer : isCloser 95 ≡ true
+unfolding isCloser
+under-is-closer = refl
+
+pub no-letters : (isAlphanumeric 95 ≡ false) × (isAlphanumeric 96 ≡ false) × (isAlphanumeric 126 ≡ false) × (isAlphanumeric 91 ≡ false) × (isAlphanumeric 60 ≡ false)
+unfolding isAlphanumeric isDigit isCapital isSmall
+no-letters = (refl, refl, refl, refl, refl)
+
 -- the spaces of a credit are ASCII, and `,` is none
 pub credit-space-low : (c : ℕ) → isCreditSpace c ≡ true → c < 128
 unfolding isCreditSpace
@@ -78,3 +98,13 @@ credit-space-low c h = go (eqb c 32) (eqb c 13) (eqb c 10) refl refl refl h
 pub comma-no-space : isCreditSpace 44 ≡ false
 unfolding isCreditSpace
 comma-no-space = refl
+
+-- the bytes behind `,` may stand in an author's field, in either reading
+pub author-takes : (c : ℕ) → 44 < c → isAuthorByte c ≡ true
+unfolding isAuthorByte
+author-takes c h = rw (ne-eqb c 44 (λ z. omega (arith, h, z)), ne-eqb c 41 (λ z. omega (arith, h, z)))
+
+pub author-unbarred : (n : Name) (c : ℕ) → 44 < c → named n .barsAuthor c ≡ false
+unfolding barsNothing isOpening
+author-unbarred Rust c h = refl
+author-unbarred Strict c h = ne-eqb c 40 (λ z. omega (arith, h, z))

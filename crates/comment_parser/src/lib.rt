@@ -125,14 +125,14 @@ pub enum Waiting {
     Item(CommentItem),
 }
 
-// Where a parser stands: the reading that it goes by, the end it reads to, its position, its modes, the event that waits, and the noted ends of an italic
+// Where a parser stands: the end it reads to, its position, its modes, the reading that it goes by, the event that waits, and the noted ends of an italic
 // and a subscript.
 pub struct ParserState {
-    pub reading: Reading,
     pub end: usize,
     pub pos: usize,
     pub math: bool,
     pub html: bool,
+    pub reading: Reading,
     pub waiting: Waiting,
     pub end_italic: usize,
     pub end_subscript: usize,

@@ -73,8 +73,8 @@ pub struct Opened<'a> {
 }
 
 impl<'a> View<'a> {
-    // A view of a span, in the reading that is named. A buffer that is too long (1) and a span that is none of it (2) are refused; the view is made all the same, gives no event
-    // and stays as it is (`refused-view` in proofs/Answers.antt).
+    // A view of a span, in the reading that is named. A buffer that is too long (1) and a span that is none of it (2) are refused; the view
+    // is made all the same, gives no event and stays as it is (`refused-view` in proofs/Answers.antt).
     pub fn open(reading: Reading, buf: &'a [u8], start: usize, end: usize) -> Opened<'a>
         ensures { λ r. ⌜ (openedAnswer (r .answer) ≡ openAnswer (now (buf .entry)) start end) × (r .view ≡ viewOf reading (buf .entry) start end) ⌝ }
     {

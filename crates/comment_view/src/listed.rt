@@ -67,8 +67,8 @@ fn lay_by_view(reading: Reading, buf: &[u8], start: usize, end: usize, out: &mut
     done.count
 }
 
-// The event records of a span, in the reading that is named, in `out`: the first that fit, and the full count. A buffer that is too long (1) and a span that is none of it
-// (2) are refused, and nothing is written.
+// The event records of a span, in the reading that is named, in `out`: the first that fit, and the full count. A buffer that is too long
+// (1) and a span that is none of it (2) are refused, and nothing is written.
 pub fn events_by_view(
     reading: Reading,
     buf: &[u8],

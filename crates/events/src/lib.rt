@@ -36,8 +36,8 @@ fn lay_event(room: &mut [u32], item: CommentItem) -> Wrote
     )
 }
 
-// The event records of the span from `start` to `end` of `buf`, in the reading that is named, in `out`: the first that fit, and the full count. A buffer that is too
-// long (1) and a span that is none of it (2) are refused, and nothing is written.
+// The event records of the span from `start` to `end` of `buf`, in the reading that is named, in `out`: the first that fit, and the full
+// count. A buffer that is too long (1) and a span that is none of it (2) are refused, and nothing is written.
 pub fn events(reading: Reading, buf: &[u8], start: usize, end: usize, out: &mut [u32]) -> Filled
     ensures answer { λ r. ⌜ filledAnswer r ≡ eventsAnswer (named reading) (now (buf .entry)) start end (length (now (out .entry))) ⌝ }
     ensures left { λ r. ⌜ now (out .exit) ≡ eventsLeft (named reading) (now (buf .entry)) start end (now (out .entry)) ⌝ }

@@ -54,9 +54,9 @@ fn lay_item(buf: &[u8], item: CommentItem, lb: &[u8], le: &[u32], room: &mut [u3
     }
 }
 
-// The links of the span from `start` to `end` of `buf`, in the reading that is named, to the labels, whose bytes and ends are `lb` and `le`, in `out`: the first that fit, and
-// the full count. A buffer that is too long (1), a span that is none of it (2) and a malformed table (4, as table 1, since it is lent
-// alone) are refused, and nothing is written.
+// The links of the span from `start` to `end` of `buf`, in the reading that is named, to the labels, whose bytes and ends are `lb` and
+// `le`, in `out`: the first that fit, and the full count. A buffer that is too long (1), a span that is none of it (2) and a malformed
+// table (4, as table 1, since it is lent alone) are refused, and nothing is written.
 pub fn links(
     reading: Reading,
     buf: &[u8],

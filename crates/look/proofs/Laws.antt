@@ -10,7 +10,7 @@ use borrow.Author.Tests.{le-ltb, lt-ltb, ltb-true, ltb-false, eqb-true, ne-eqb}
 use lib.Dec.{ltb, eqb}
 use lib.ListN.{length, drop, getD, length-drop, drop-of-length-le}
 use lib.Seq.{drop-cons, getD-drop}
-use Rattle.basics.proofs.Laws.{both}
+use Rattle.basics.proofs.Laws.{differ, both}
 use Rattle.byte_rules.specs.Classes.{isBlank, isCloser}
 use Rattle.look.specs.Look.{holdsAt, isByte, byteAt, blankAt, alphanumericAt, closerAt, doubledAt, wordAt}
 
@@ -52,6 +52,25 @@ module _ (s : List ℕ) (i : ℕ) where
   -- a place has one byte
   pub byte-other : (a b : ℕ) → byteAt s i a ≡ true → (a ≡ b → ⊥) → byteAt s i b ≡ false
   byte-other a b h n = byte-test b (byte-within a h) ∙ rw (byte-is a h, ne-eqb a b n)
+
+  -- so none that passes a test stands where the test does not hold, and none that does not where it holds
+  module _ (test : ℕ → Bool) (b : ℕ) where
+    held : (x : Bool) → test b ≡ x → byteAt s i b ≡ true → holdsAt test s i ≡ x
+    held x t h = holds-in test s i (byte-within b h) ∙ rw (byte-is b h) t
+
+    pub not-byte : test b ≡ true → holdsAt test s i ≡ false → byteAt s i b ≡ false
+    not-byte t n = go (byteAt s i b) refl
+      where
+        go : (x : Bool) → byteAt s i b ≡ x → byteAt s i b ≡ false
+        go true e = let y = held true t e in absurd (differ cc)
+        go false e = e
+
+    pub other-byte : test b ≡ false → holdsAt test s i ≡ true → byteAt s i b ≡ false
+    other-byte t n = go (byteAt s i b) refl
+      where
+        go : (x : Bool) → byteAt s i b ≡ x → byteAt s i b ≡ false
+        go true e = let y = held false t e in absurd (differ cc)
+        go false e = e
 
   pub blank-within : blankAt s i ≡ true → i < length s
   unfolding blankAt

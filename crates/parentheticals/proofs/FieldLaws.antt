@@ -1,7 +1,7 @@
 -- The laws of the fields' matchers: one for each way that the code goes.
 -- Assumes nothing.
 use Prim.Native.Nat.{ℕ, suc, _+_, _-_, _<_, _≤_}
-use mathlib.Core.Path.{_≡_}
+use mathlib.Core.Path.{_≡_, sym, _∙_}
 use mathlib.Core.List.{List, _∷_}
 use mathlib.Core.Bool.{Bool, true, false, _&&_, not}
 use mathlib.Core.Option.{none, some}
@@ -11,7 +11,11 @@ use lib.ListN.{length, getD, drop, drop-of-length-le}
 use lib.Seq.{drop-cons}
 use borrow.Author.Tests.{eq-eqb, ne-eqb, lt-ltb, le-ltb}
 use Rattle.byte_rules.specs.Classes.{isCreditSpace, isDigit, isCapital, isSmall, isAuthorByte}
+use Rattle.byte_rules.specs.Reading.{named}
 use Rattle.byte_rules.specs.Utf8.{charLen}
+use Rattle.byte_rules.specs.declared.reading.Reading.{Reading as Name}
+use Rattle.byte_rules.proofs.Laws.{author-takes, author-unbarred}
+use Rattle.byte_rules.proofs.Characters.{char-one}
 use Rattle.look.specs.Look.{byteAt}
 use Rattle.look.proofs.Laws.{holds-in, holds-past}
 use Rattle.scans.specs.Marks.{lparen}
@@ -157,3 +161,9 @@ module _ (bars : ℕ → Bool) (s : List ℕ) (i : ℕ) where
     pub len-other : (isAuthorByte (getD s i 0) && not (bars (getD s i 0))) ≡ false → 0 ≡ authorLen bars s i
     unfolding authorLen authorByte
     len-other e = rw (holds-in (authorByte bars) s i h, e)
+
+-- an ASCII byte behind the `,` is a character of an author in either reading
+pub len-one : (n : Name) (s : List ℕ) (i : ℕ) → i < length s → 44 < getD s i 0 → getD s i 0 < 128 → 1 ≡ authorLen (named n .barsAuthor) s i
+len-one n s i h above low =
+    sym (char-one s i h low)
+    ∙ len-char (named n .barsAuthor) s i h (rw (author-takes (getD s i 0) above, author-unbarred n (getD s i 0) above))

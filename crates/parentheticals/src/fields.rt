@@ -131,7 +131,8 @@ pub fn author_start(text: &[u8], at: usize) -> Place
     Place::At(end)
 }
 
-// How many bytes the author's character at `at` has; 0 if none stands there, or one that the reading bars.
+// How many bytes the author's character at `at` has; 0 if none stands there, or one that the reading bars. Most bytes of an author are letters, and no
+// ASCII byte behind the `,` is barred in any reading.
 pub fn author_len(reading: Reading, text: &[u8], at: usize) -> usize
     ensures { λ r. ⌜ r ≡ authorLen (named reading .barsAuthor) (now (text .entry)) at ⌝ }
 {
@@ -139,6 +140,9 @@ pub fn author_len(reading: Reading, text: &[u8], at: usize) -> usize
         return 0;
     }
     let c = text[at];
+    if (b',' < c) & (c < 128) {
+        return 1;
+    }
     if is_author_byte(c) & !reading.bars_author(c) {
         return char_len(text, at);
     }

@@ -5,7 +5,7 @@ use mathlib.Core.List.{List}
 use lib.Dec.{ltb}
 use lib.ListN.{length}
 use Rattle.byte_rules.specs.Text.{bytes}
-use Rattle.byte_rules.specs.Reading.{Reading, named}
+use Rattle.byte_rules.specs.Reading.{Reading, rust, strict}
 use Rattle.look.specs.Look.{holdsAt, byteAt, blankAt, alphanumericAt, closerAt, doubledAt, wordAt}
 use Rattle.scans.specs.Marks.{tick, lbracket, rbracket, under, lf, cr, space, openHtml, closeHtml}
 use Rattle.scans.specs.Scan.{scan}
@@ -14,7 +14,7 @@ use Rattle.scans.specs.declared.Step.the-variants.{One, Two, Stop}
 use Rattle.basics.specs.declared.Place.{Place}
 use Rattle.basics.specs.declared.Place.the-variants.{At, Nowhere}
 use Rattle.scans.specs.declared.Rule.{Rule}
-use Rattle.scans.specs.declared.Rule.the-variants.{Blanks, Tag, Subscript, Italic}
+use Rattle.scans.specs.declared.Rule.the-variants.{Blanks, Tag, Subscript, StrictSubscript, Italic, StrictItalic}
 
 module _ (s : List ℕ) where
   -- a blank is stepped over
@@ -53,8 +53,10 @@ module _ (rd : Reading) (s : List ℕ) where
 unfoldable pub stepBy : List ℕ → Rule → ℕ → Step
 stepBy s Blanks = blanksStep s
 stepBy s Tag = tagStep s
-stepBy s (Subscript n) = subscriptStep (named n) s
-stepBy s (Italic n) = italicStep (named n) s
+stepBy s Subscript = subscriptStep rust s
+stepBy s StrictSubscript = subscriptStep strict s
+stepBy s Italic = italicStep rust s
+stepBy s StrictItalic = italicStep strict s
 
 -- where the scan by a rule from i on stops
 abbrev pub scanBy : List ℕ → Rule → ℕ → ℕ
@@ -105,13 +107,21 @@ module _ (s : List ℕ) where
   closesItalic j = elim (byteAt s j under && alphanumericAt s (j - 1) && not (alphanumericAt s (j + 1))) [ true ↦ At j | false ↦ Nowhere ]
 
 module _ (rd : Reading) (s : List ℕ) where
+  -- where a subscript's text, read from i on, stops
+  abbrev pub subscriptStop : ℕ → ℕ
+  subscriptStop i = scan (subscriptStep rd s) (length s) i
+
   -- where a subscript whose text begins at i ends, if it is one: it is not empty
   unfoldable pub subscriptEnd : ℕ → Place
-  subscriptEnd i = let j = scan (subscriptStep rd s) (length s) i in elim (ltb i j) [ true ↦ At j | false ↦ Nowhere ]
+  subscriptEnd i = let j = subscriptStop i in elim (ltb i j) [ true ↦ At j | false ↦ Nowhere ]
+
+  -- where an italic's text, read from i on, stops
+  abbrev pub italicStop : ℕ → ℕ
+  italicStop i = scan (italicStep rd s) (length s) i
 
   -- the lone `_` that ends an italic whose text begins at i, if it is one: its first byte is alphanumeric
   unfoldable pub italicEnd : ℕ → Place
-  italicEnd i = elim (alphanumericAt s i) [ true ↦ closesItalic s (scan (italicStep rd s) (length s) (i + 1)) | false ↦ Nowhere ]
+  italicEnd i = elim (alphanumericAt s i) [ true ↦ closesItalic s (italicStop (i + 1)) | false ↦ Nowhere ]
 
 -- a label is a url if it begins with http:// , https:// or mm
 unfoldable pub isUrl : List ℕ → Bool

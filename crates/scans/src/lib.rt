@@ -15,7 +15,7 @@ use look::doubled_at;
 ghost use mathlib.Core.Path.{_≡_};
 ghost use Prim.Native.Nat.{_≤_};
 ghost use Rattle.byte_rules.specs.Reading.{named};
-ghost use Rattle.scans.specs.Ends.{blanksStep, tagStep, subscriptStep, italicStep, stepBy, scanBy, blanksEnd, tagStop, subscriptEnd, closesItalic, italicEnd};
+ghost use Rattle.scans.specs.Ends.{blanksStep, tagStep, subscriptStep, italicStep, stepBy, scanBy, blanksEnd, tagStop, subscriptStop, subscriptEnd, closesItalic, italicStop, italicEnd};
 ghost use Rattle.scans.specs.Notes.{covers};
 
 pub enum Step {
@@ -24,12 +24,14 @@ pub enum Step {
     Stop,
 }
 
-// The rule that a scan goes by; the last two are a reading's.
+// The rule that a scan goes by. Subscripts and italics have one in each reading, so that the reading is asked once a scan, and not at each byte.
 pub enum Rule {
     Blanks,
     Tag,
-    Subscript(Reading),
-    Italic(Reading),
+    Subscript,
+    StrictSubscript,
+    Italic,
+    StrictItalic,
 }
 
 // What a search for a tag's end that failed tells: no `[` from `from` on and before `to` opens a tag.
@@ -111,8 +113,10 @@ fn step_by(rule: Rule, text: &[u8], i: usize) -> Step
     match rule {
         Rule::Blanks => blanks_step(text, i),
         Rule::Tag => tag_step(text, i),
-        Rule::Subscript(reading) => subscript_step(reading, text, i),
-        Rule::Italic(reading) => italic_step(reading, text, i),
+        Rule::Subscript => subscript_step(Reading::Rust, text, i),
+        Rule::StrictSubscript => subscript_step(Reading::Strict, text, i),
+        Rule::Italic => italic_step(Reading::Rust, text, i),
+        Rule::StrictItalic => italic_step(Reading::Strict, text, i),
     }
 }
 
@@ -145,11 +149,31 @@ pub fn tag_stop(text: &[u8], from: usize) -> usize
     scan_by(Rule::Tag, text, from)
 }
 
+// The first place from `from` on at which a subscript stops.
+fn subscript_stop(reading: Reading, text: &[u8], from: usize) -> usize
+    ensures { λ r. ⌜ r ≡ subscriptStop (named reading) (now (text .entry)) from ⌝ }
+{
+    match reading {
+        Reading::Rust => scan_by(Rule::Subscript, text, from),
+        Reading::Strict => scan_by(Rule::StrictSubscript, text, from),
+    }
+}
+
+// The same of an italic.
+fn italic_stop(reading: Reading, text: &[u8], from: usize) -> usize
+    ensures { λ r. ⌜ r ≡ italicStop (named reading) (now (text .entry)) from ⌝ }
+{
+    match reading {
+        Reading::Rust => scan_by(Rule::Italic, text, from),
+        Reading::Strict => scan_by(Rule::StrictItalic, text, from),
+    }
+}
+
 // Where a subscript whose text begins at `from` ends, if it is one: it is not empty.
 pub fn subscript_end(reading: Reading, text: &[u8], from: usize) -> Place
     ensures { λ r. ⌜ r ≡ subscriptEnd (named reading) (now (text .entry)) from ⌝ }
 {
-    let j = scan_by(Rule::Subscript(reading), text, from);
+    let j = subscript_stop(reading, text, from);
     if from < j {
         Place::At(j)
     } else {
@@ -162,7 +186,7 @@ pub fn italic_end(reading: Reading, text: &[u8], from: usize) -> Place
     ensures { λ r. ⌜ r ≡ italicEnd (named reading) (now (text .entry)) from ⌝ }
 {
     if alphanumeric_at(text, from) {
-        let j = scan_by(Rule::Italic(reading), text, from + 1);
+        let j = italic_stop(reading, text, from + 1);
         closes_italic(text, j)
     } else {
         Place::Nowhere

@@ -34,7 +34,7 @@ use Rattle.comment_parser.proofs.Passes.{Good, pass-by, act-by}
 use Rattle.strict.specs.Strict.{Alone, Inside}
 use Rattle.strict.proofs.Grammar.{Mode, outside, in-italic, in-math, behind-start, behind-text, Goes, alone, start-subscript, subscript-text, end-subscript, start-italic, inside, end-italic, start-math, token, end-math, Final, final-outside, final-math}
 use Rattle.strict.proofs.Texts as texts
-use Rattle.strict.proofs.Texts.{Barless, under-barless, SubscriptByte, ItalicText, italicStop, ItalicPlace, italic-place, italic-text}
+use Rattle.strict.proofs.Texts.{Barless, under-barless, SubscriptByte, ItalicText, ItalicPlace, italic-place, italic-text}
 use Rattle.strict.proofs.States.{Loose, Outside, InMath, InSubscript, InItalic, Stands, later}
 
 -- THE RULES, where the noted subscript end is not ahead

@@ -15,7 +15,7 @@ use Rattle.look.specs.Look.{byteAt, blankAt, doubledAt, wordAt}
 use Rattle.look.proofs.Laws.{byte-within, byte-other, doubled-first, doubled-within}
 use Rattle.scans.specs.Marks.{tick, tilde, lbracket, under, less, lf, openHtml, closeHtml}
 use Rattle.scans.specs.Scan.{scan}
-use Rattle.scans.specs.Ends.{italicStep, blanksEnd, tagEnd, labelEnd, subscriptEnd, italicEnd, isUrl}
+use Rattle.scans.specs.Ends.{italicStep, italicStop, blanksEnd, tagEnd, labelEnd, subscriptEnd, italicEnd, isUrl}
 use Rattle.basics.specs.declared.Place.{Place}
 use Rattle.basics.specs.declared.Place.the-variants.{At, Nowhere}
 use Rattle.scans.proofs.Laws.{Leads, by-one, by-two, stops, scanned, scan-ge, clash}
@@ -34,7 +34,7 @@ use Rattle.comment_parser.proofs.Passes.{Good, pass-by, act-by}
 use Rattle.strict.specs.Strict.{Alone, Inside}
 use Rattle.strict.proofs.Grammar.{Mode, outside, in-italic, in-math, behind-start, behind-text, Goes, alone, start-subscript, subscript-text, end-subscript, start-italic, inside, end-italic, start-math, token, end-math, Final, final-outside, final-math}
 use Rattle.strict.proofs.Texts as texts
-use Rattle.strict.proofs.Texts.{Barless, under-barless, SubscriptByte, ItalicText, italicStop, ItalicPlace, italic-place, italic-text}
+use Rattle.strict.proofs.Texts.{Barless, under-barless, SubscriptByte, ItalicText, ItalicPlace, italic-place, italic-text}
 use Rattle.strict.proofs.Passes.{both, marked, RunPassed, text-run, steps-on, to-plain, to-under}
 use Rattle.strict.proofs.States.{Loose, Outside, InMath, InSubscript, InItalic, Stands, later}
 
@@ -57,10 +57,10 @@ module _ (s : List ℕ) (st : ParserState) (o : InItalic s st) where
     ItalicGood = Good ItalicQ ItalicR p
 
     -- a step to q, from where the italic ends at the same place
-    on-to : (q : ℕ) → p ≤ q → q ≤ length s → italicStop s p ≡ italicStop s q → ItalicQ q
+    on-to : (q : ℕ) → p ≤ q → q ≤ length s → italicStop strict s p ≡ italicStop strict s q → ItalicQ q
     on-to q h u z =
-        let e : italicStop s q ≡ st .«end_italic» = sym z ∙ k .text .ends in
-        let g : q ≤ italicStop s q = scan-ge (italicStep strict s) (length s) q q (le-refl q) u in
+        let e : italicStop strict s q ≡ st .«end_italic» = sym z ∙ k .text .ends in
+        let g : q ≤ italicStop strict s q = scan-ge (italicStep strict s) (length s) q q (le-refl q) u in
         record { on = omega (arith, k .on); text = record { ends = e; up = omega arith; closed = k .text .closed } }
 
     italic-newline : ItalicQ (p + 1) → ItalicGood (newlineRule s st (st .pos) p)

@@ -14,7 +14,8 @@ use Rattle.scans.proofs.Laws.{scan-end, scan-one, scan-two, scan-stop}
 use Rattle.comment_parser.specs.Rules.{passAct}
 use Rattle.comment_parser.specs.Pass.{passStep}
 use Rattle.comment_parser.specs.Notes.{Acts}
-use Rattle.comment_parser.proofs.Laws.{step-is, ended, ran-out, skip-less}
+use Rattle.comment_parser.proofs.Laws.{step-is, ended, ran-out}
+use Rattle.comment_parser.proofs.Skipping.{skip-less}
 use Rattle.comment_parser.proofs.pass.pass.Statement.{statement}
 use Rattle.comment_parser.proofs.pass.pass.Tie as tie
 
