@@ -6,20 +6,24 @@ use mathlib.Core.Path.{_≡_, refl, ap, sym, _∙_}
 use mathlib.Core.List.{List}
 use lib.ListN.{length}
 use native.Mathlib.Omega.{arith}
-use borrow.Author.Tests.{lt-ltb, le-ltb}
+use borrow.Author.Tests.{lt-ltb, le-ltb, ne-eqb}
 use Rattle.byte_rules.specs.Reading.{Reading}
 use Rattle.look.specs.Look.{byteAt, blankAt}
 use Rattle.scans.specs.Marks.{lf}
+use Rattle.scans.specs.Plain.{activeAt, plainStep, plainEnd}
 use Rattle.scans.specs.Scan.{scan}
-use Rattle.scans.proofs.Laws.{scan-le}
+use Rattle.scans.specs.declared.Step.the-variants.{One as StepOne}
+use Rattle.scans.proofs.Laws.{by-less, scan-over, scan-le, scan-end}
 use Rattle.scans.proofs.EndLaws.{blanks-stopped}
+use Rattle.scans.proofs.PlainLaws.{active-free, plain-passed}
 use Rattle.comment_parser.specs.State.{moved}
-use Rattle.comment_parser.specs.Rules.{afterLf, passAct}
+use Rattle.comment_parser.specs.Rules.{afterLf, plainRule, textRule, firstRule, stepTo, passAct}
 use Rattle.comment_parser.specs.Pass.{stepOf, runTo, passStep, endedAt, pass, runStart}
+use Rattle.comment_parser.specs.Notes.{Skipped}
 use Rattle.comment_parser.specs.declared.ParserState.{ParserState}
 use Rattle.comment_parser.specs.declared.Waiting.the-variants.{Nothing}
 use Rattle.comment_parser.specs.declared.Act.{Act}
-use Rattle.comment_parser.specs.declared.Act.the-variants.{Ends}
+use Rattle.comment_parser.specs.declared.Act.the-variants.{One, Ends}
 
 -- looking back for an LF: nothing before the run's start, and one byte further
 pub lf-none : (s : List ℕ) (from : ℕ) → afterLf s (from - from) from ≡ false
@@ -78,3 +82,54 @@ Clean s st p = st .math ≡ true → blankAt s p ≡ false
 pub run-start-clean : (s : List ℕ) (st : ParserState) → Clean s st (runStart s st)
 unfolding runStart
 run-start-clean s st m = rw (runStart, m) (blanks-stopped s (st .pos))
+
+-- a plain byte is stepped over
+
+html-cases : (b : Bool) (x : Act) → x ≡ One → elim b [ true ↦ One | false ↦ x ] ≡ One
+html-cases true x e = refl
+html-cases false x e = e
+
+module _ (rd : Reading) (s : List ℕ) (st : ParserState) (from k : ℕ) (h : k < length s) (m : activeAt s k ≡ false) (o : st .math ≡ false) (n : k + 1 ≡ st .«end_subscript» → ⊥) where
+  plain-is : plainRule rd s st from k ≡ One
+  unfolding plainRule
+  plain-is = let f = active-free s k h m in rw (plainRule, f .not-5, f .not-6)
+
+  text-is : textRule rd s st from k ≡ One
+  unfolding textRule
+  text-is = let f = active-free s k h m in rw (textRule, f .not-2, f .not-3, f .not-4) (html-cases (st .html) (plainRule rd s st from k) plain-is)
+
+  first-is : firstRule rd s st from k ≡ One
+  unfolding firstRule
+  first-is = let f = active-free s k h m in rw (firstRule, f .not-1, o) text-is
+
+  act-one : passAct rd s st from k ≡ One
+  unfolding passAct stepTo
+  act-one = rw (passAct, first-is, stepTo, ne-eqb (k + 1) (st .«end_subscript») n)
+
+  pass-one : passStep rd s st from k ≡ StepOne
+  pass-one = step-is rd s st from k One (sym act-one)
+
+-- a run goes on past plain bytes, in any reading, up to the step that reaches the noted subscript end
+pub skip-to : (s : List ℕ) (st : ParserState) (p r : ℕ) → st .math ≡ false → r ≤ plainEnd s p → (length s ≤ p → r ≡ length s) → (p ≤ length s → p ≤ r) → ((k : ℕ) → p ≤ k → k < r → k + 1 ≡ st .«end_subscript» → ⊥) → Skipped s st p r
+skip-to s st p r o a b c d =
+    let w : plainEnd s p ≤ length s = scan-le (plainStep s) (length s) p in
+    by-less (length s) p
+    (λ l.
+    let e : r ≡ length s = b (omega arith) in
+    record {
+      over = λ rd from. scan-end (passStep rd s st from) (length s) p (omega arith) ∙ sym (scan-end (passStep rd s st from) (length s) r (omega arith));
+      onward = λ k x y. omega arith;
+    })
+    (λ l.
+    let e : p ≤ r = c l in
+    record {
+      over = λ rd from. scan-over (passStep rd s st from) (length s) p r e (omega arith) (λ k x y. pass-one rd s st from k (omega arith) (plain-passed s p k x (omega arith)) o (d k x y));
+      onward = λ k x y. omega arith;
+    })
+
+-- a skip that stays before the end goes no way back
+pub skip-less : (s : List ℕ) (st : ParserState) (p r : ℕ) → Skipped s st p r → r < length s → p ≤ r
+skip-less s st p r k h =
+    by-less (length s) p
+    (λ l. absurd (let y : ⊥ = omega (arith, k .onward (length s) (omega arith) (omega arith)) in y))
+    (λ l. k .onward p (omega arith) l)

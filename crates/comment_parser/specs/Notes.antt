@@ -1,19 +1,14 @@
 -- What the functions that go by a note about tags answer, if the note holds: what the definitions without a note say, and a note that holds.
-use Prim.Native.Nat.{ℕ, _≤_, _<_}
+use Prim.Native.Nat.{ℕ, _≤_}
 use mathlib.Core.Path.{_≡_}
-use mathlib.Core.Bool.{Bool, true, false, _&&_, not}
 use mathlib.Core.List.{List}
 use mathlib.Core.Option.{some}
 use lib.ListN.{length, take}
 use Rattle.records.specs.Answer.{Answer, stateRefusal}
 use Rattle.byte_rules.specs.Reading.{Reading, named}
-use Rattle.look.specs.Look.{byteAt}
-use Rattle.scans.specs.Marks.{lf}
-use Rattle.scans.specs.Plain.{activeAt}
 use Rattle.scans.specs.Scan.{scan}
 use Rattle.scans.specs.Notes.{Holds}
 use Rattle.scans.specs.declared.Note.{Note}
-use Rattle.comment_parser.specs.Rules.{blankBefore}
 use Rattle.comment_parser.specs.Pass.{passStep}
 use Rattle.comment_parser.specs.Next.{Outcome, stepAnswer, refusedAs, nextOf}
 use Rattle.comment_parser.specs.declared.ParserState.{ParserState}
@@ -49,22 +44,6 @@ pub record Refuses (st : ParserState) (note : Note) (a : Answer) (r : NextNoted)
 pub record NextBy (buf : List ℕ) (st : ParserState) (note : Note) (r : NextNoted) : Type 0 where
   pub refuses : (a : Answer) → stateRefusal (length buf) (st .pos) (st .end) ≡ some a → Refuses st note a r
   pub reads : Holds (take (st .end) buf) note → Answers (take (st .end) buf) (nextOf (named (st .reading)) buf st) r
-
--- an LF behind a byte that is no blank
-unfoldable pub quietLf : List ℕ → ℕ → Bool
-quietLf s q = byteAt s q lf && not (blankBefore s q)
-
--- a byte that no rule takes outside math, whatever the run is: a plain one, or such an LF
-pub data Quiet (s : List ℕ) (k : ℕ) : Type 0 where
-  plain : activeAt s k ≡ false → Quiet s k
-  behind-a-byte : quietLf s k ≡ true → Quiet s k
-
--- such bytes alone stand from p up to r, a place of the text or its end
-pub record QuietTo (s : List ℕ) (p r : ℕ) : Type 0 where
-  pub within : r ≤ length s
-  pub onward : p ≤ length s → p ≤ r
-  pub past : length s ≤ p → r ≡ length s
-  pub quiet : (k : ℕ) → p ≤ k → k < r → Quiet s k
 
 -- a run that is at p may go on at r, in any reading
 pub record Skipped (s : List ℕ) (st : ParserState) (p r : ℕ) : Type 0 where

@@ -11,11 +11,14 @@ use records::Refusal;
 use records::check_state;
 use scans::Note;
 ghost use mathlib.Core.Path.{_≡_};
+ghost use Prim.Native.Nat.{_≤_};
+ghost use lib.ListN.{take};
+ghost use Rattle.scans.specs.Notes.{Holds};
 ghost use Rattle.byte_rules.specs.Reading.{named};
 ghost use Rattle.comment_parser.specs.Item.{point, spread, placedOf};
 ghost use Rattle.comment_parser.specs.State.{moved, inMath, inHtml, italicTo, subscriptTo, fresh};
-ghost use Rattle.comment_parser.specs.Next.{stepAnswer, give, nextOf};
-ghost use Rattle.comment_parser.specs.Notes.{NextBy};
+ghost use Rattle.comment_parser.specs.Next.{stepAnswer, give, answered, nextOf};
+ghost use Rattle.comment_parser.specs.Notes.{NextBy, Read};
 
 // An event of a comment: a text, a token or a tag by its span, a label or url by its tilde's place and its span, any other by its place.
 pub enum CommentItem {
@@ -254,13 +257,23 @@ impl ParserState {
                 note,
             };
         }
+        self.next_within(buf, note)
+    }
+
+    // The same of a state that is not refused, unchecked: a loop that checks the state it starts from need not check those on the way.
+    pub fn next_within(self, buf: &[u8], note: Note) -> NextNoted
+        ensures { λ r. ⌜ (Holds (take (self .end) (now (buf .entry))) note → Read (take (self .end) (now (buf .entry))) (answered (named (self .reading)) (now (buf .entry)) self) r) ⌝ }
+    {
         let waiting = self.waiting;
         match waiting {
             Waiting::Item(_) => NextNoted {
                 next: give(self),
                 note,
             },
-            Waiting::Nothing => read_on(&buf[..end], self, note),
+            Waiting::Nothing => {
+                let cut = cut_at(buf.len(), self.end);
+                read_on(&buf[..cut], self, note)
+            }
         }
     }
 
@@ -284,4 +297,11 @@ fn give(st: ParserState) -> Next
         Waiting::Item(item) => Next::Event(st.moved(pos, Waiting::Nothing), item),
         Waiting::Nothing => Next::End(st),
     }
+}
+
+// Where a text of `len` bytes is cut that is read to `end`: there, or at its own end.
+fn cut_at(len: usize, end: usize) -> usize
+    ensures { λ r. ⌜ (r ≤ len) × (end ≤ len → r ≡ end) × (len ≤ end → r ≡ len) ⌝ }
+{
+    if end <= len { end } else { len }
 }

@@ -8,10 +8,8 @@ use crate::Run;
 use crate::RunNoted;
 use crate::Waiting;
 use crate::give;
-use crate::rules::blank_before;
 use crate::rules::pass_act;
 use basics::Span;
-use look::byte_at;
 use scans::Note;
 use scans::blanks_end;
 use scans::plain::plain_end;
@@ -22,35 +20,9 @@ ghost use Rattle.byte_rules.specs.Reading.{named};
 ghost use Rattle.scans.specs.Notes.{Holds};
 ghost use Rattle.comment_parser.specs.Pass.{pass, runStart, runItem};
 ghost use Rattle.comment_parser.specs.Next.{readOn};
-ghost use Rattle.comment_parser.specs.Notes.{Ran, Read, quietLf, QuietTo, Skipped};
+ghost use Rattle.comment_parser.specs.Notes.{Ran, Read, Skipped};
 
-// An LF behind a byte that is no blank: it ends no run, since no LF has only blanks between itself and this one.
-pub(crate) fn is_quiet_lf(text: &[u8], q: usize) -> bool
-    ensures { λ r. ⌜ r ≡ quietLf (now (text .entry)) q ⌝ }
-{
-    if byte_at(text, q, b'\n') {
-        !blank_before(text, q)
-    } else {
-        false
-    }
-}
-
-// The first place from p on that is neither plain nor such an LF, or the end. Most LF bytes are such.
-pub(crate) fn quiet_end(text: &[u8], p: usize) -> usize
-    ensures { λ r. ⌜ QuietTo (now (text .entry)) p r ⌝ }
-{
-    let mut q = p;
-    loop {
-        q = plain_end(text, q);
-        if is_quiet_lf(text, q) {
-            q += 1;
-        } else {
-            return q;
-        }
-    }
-}
-
-// The next place from p on at which a rule may act: outside math the bytes that no rule takes are stepped over, up to the noted subscript end.
+// The next place from p on at which a rule may act: outside math the plain bytes are stepped over, up to the noted subscript end.
 pub(crate) fn skip(text: &[u8], st: ParserState, p: usize) -> usize
     ensures { λ r. ⌜ Skipped (now (text .entry)) st p r ⌝ }
 {
@@ -58,7 +30,7 @@ pub(crate) fn skip(text: &[u8], st: ParserState, p: usize) -> usize
         return p;
     }
     let noted = st.end_subscript;
-    let q = quiet_end(text, p);
+    let q = plain_end(text, p);
     if p < noted {
         if noted <= q {
             return noted - 1;
@@ -69,7 +41,6 @@ pub(crate) fn skip(text: &[u8], st: ParserState, p: usize) -> usize
 
 // The run from `from`, to what ends it.
 pub(crate) fn pass(text: &[u8], st: ParserState, from: usize, note: Note) -> RunNoted
-    requires { ⌜ from ≤ length (now text) ⌝ }
     ensures { λ r. ⌜ (Holds (now (text .entry)) note → Ran (now (text .entry)) (pass (named (st .reading)) (now (text .entry)) st from) r) ⌝ }
 {
     let mut p = from;
@@ -124,7 +95,6 @@ pub(crate) fn run_item(st: ParserState, start: usize, end: usize) -> CommentItem
 
 // The run, if it is not empty, and then what ended it.
 pub(crate) fn read_on(text: &[u8], st: ParserState, note: Note) -> NextNoted
-    requires { ⌜ st .pos ≤ length (now text) ⌝ }
     ensures { λ r. ⌜ (Holds (now (text .entry)) note → Read (now (text .entry)) (readOn (named (st .reading)) (now (text .entry)) st) r) ⌝ }
 {
     let from = run_start(text, st);

@@ -50,7 +50,7 @@ pub fn events(reading: Reading, buf: &[u8], start: usize, end: usize, out: &mut 
     let mut at: usize = 0;
     let mut n: usize = 0;
     loop {
-        let noted = st.next_noted(buf, note);
+        let noted = st.next_within(buf, note);
         let next = noted.next;
         let later = noted.note;
         let Next::Event(after, item) = next else {

@@ -80,7 +80,7 @@ pub fn links(
     let mut at: usize = 0;
     let mut n: usize = 0;
     loop {
-        let noted = st.next_noted(buf, note);
+        let noted = st.next_within(buf, note);
         let next = noted.next;
         let later = noted.note;
         let Next::Event(after, item) = next else {

@@ -5,7 +5,7 @@ use mathlib.Core.List.{List}
 use lib.Dec.{ltb}
 use lib.ListN.{length}
 use Rattle.byte_rules.specs.Text.{bytes}
-use Rattle.byte_rules.specs.Reading.{Reading, rust, strict}
+use Rattle.byte_rules.specs.Reading.{Reading}
 use Rattle.look.specs.Look.{holdsAt, byteAt, blankAt, alphanumericAt, closerAt, doubledAt, wordAt}
 use Rattle.scans.specs.Marks.{tick, lbracket, rbracket, under, lf, cr, space, openHtml, closeHtml}
 use Rattle.scans.specs.Scan.{scan}
@@ -14,7 +14,7 @@ use Rattle.scans.specs.declared.Step.the-variants.{One, Two, Stop}
 use Rattle.basics.specs.declared.Place.{Place}
 use Rattle.basics.specs.declared.Place.the-variants.{At, Nowhere}
 use Rattle.scans.specs.declared.Rule.{Rule}
-use Rattle.scans.specs.declared.Rule.the-variants.{Blanks, Tag, Subscript, StrictSubscript, Italic, StrictItalic}
+use Rattle.scans.specs.declared.Rule.the-variants.{Blanks, Tag, Subscript, Italic}
 
 module _ (s : List ℕ) where
   -- a blank is stepped over
@@ -50,17 +50,15 @@ module _ (rd : Reading) (s : List ℕ) where
       ]
 
 -- the rules that the code's one loop goes by
-unfoldable pub stepBy : List ℕ → Rule → ℕ → Step
-stepBy s Blanks = blanksStep s
-stepBy s Tag = tagStep s
-stepBy s Subscript = subscriptStep rust s
-stepBy s StrictSubscript = subscriptStep strict s
-stepBy s Italic = italicStep rust s
-stepBy s StrictItalic = italicStep strict s
+unfoldable pub stepBy : Reading → List ℕ → Rule → ℕ → Step
+stepBy rd s Blanks = blanksStep s
+stepBy rd s Tag = tagStep s
+stepBy rd s Subscript = subscriptStep rd s
+stepBy rd s Italic = italicStep rd s
 
 -- where the scan by a rule from i on stops
-abbrev pub scanBy : List ℕ → Rule → ℕ → ℕ
-scanBy s r i = scan (stepBy s r) (length s) i
+abbrev pub scanBy : Reading → List ℕ → Rule → ℕ → ℕ
+scanBy rd s r i = scan (stepBy rd s r) (length s) i
 
 module _ (s : List ℕ) where
   -- the first place from i on that is no blank

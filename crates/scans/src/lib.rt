@@ -15,7 +15,7 @@ use look::doubled_at;
 ghost use mathlib.Core.Path.{_≡_};
 ghost use Prim.Native.Nat.{_≤_};
 ghost use Rattle.byte_rules.specs.Reading.{named};
-ghost use Rattle.scans.specs.Ends.{blanksStep, tagStep, subscriptStep, italicStep, stepBy, scanBy, blanksEnd, tagStop, subscriptStop, subscriptEnd, closesItalic, italicStop, italicEnd};
+ghost use Rattle.scans.specs.Ends.{blanksStep, tagStep, subscriptStep, italicStep, stepBy, scanBy, blanksEnd, tagStop, subscriptEnd, closesItalic, italicEnd};
 ghost use Rattle.scans.specs.Notes.{covers};
 
 pub enum Step {
@@ -24,14 +24,12 @@ pub enum Step {
     Stop,
 }
 
-// The rule that a scan goes by. Subscripts and italics have one in each reading, so that the reading is asked once a scan, and not at each byte.
+// The rule that a scan goes by; the last two look at the reading.
 pub enum Rule {
     Blanks,
     Tag,
     Subscript,
-    StrictSubscript,
     Italic,
-    StrictItalic,
 }
 
 // What a search for a tag's end that failed tells: no `[` from `from` on and before `to` opens a tag.
@@ -107,26 +105,24 @@ fn italic_step(reading: Reading, text: &[u8], i: usize) -> Step
     }
 }
 
-fn step_by(rule: Rule, text: &[u8], i: usize) -> Step
-    ensures { λ r. ⌜ r ≡ stepBy (now (text .entry)) rule i ⌝ }
+fn step_by(reading: Reading, rule: Rule, text: &[u8], i: usize) -> Step
+    ensures { λ r. ⌜ r ≡ stepBy (named reading) (now (text .entry)) rule i ⌝ }
 {
     match rule {
         Rule::Blanks => blanks_step(text, i),
         Rule::Tag => tag_step(text, i),
-        Rule::Subscript => subscript_step(Reading::Rust, text, i),
-        Rule::StrictSubscript => subscript_step(Reading::Strict, text, i),
-        Rule::Italic => italic_step(Reading::Rust, text, i),
-        Rule::StrictItalic => italic_step(Reading::Strict, text, i),
+        Rule::Subscript => subscript_step(reading, text, i),
+        Rule::Italic => italic_step(reading, text, i),
     }
 }
 
 // The first place from `from` on at which the rule stops, or the end.
-fn scan_by(rule: Rule, text: &[u8], from: usize) -> usize
-    ensures { λ r. ⌜ r ≡ scanBy (now (text .entry)) rule from ⌝ }
+fn scan_by(reading: Reading, rule: Rule, text: &[u8], from: usize) -> usize
+    ensures { λ r. ⌜ r ≡ scanBy (named reading) (now (text .entry)) rule from ⌝ }
 {
     let mut i = from;
     while i < text.len() {
-        match step_by(rule, text, i) {
+        match step_by(reading, rule, text, i) {
             Step::One => i += 1,
             Step::Two => i += 2,
             Step::Stop => return i,
@@ -139,41 +135,21 @@ fn scan_by(rule: Rule, text: &[u8], from: usize) -> usize
 pub fn blanks_end(text: &[u8], from: usize) -> usize
     ensures { λ r. ⌜ r ≡ blanksEnd (now (text .entry)) from ⌝ }
 {
-    scan_by(Rule::Blanks, text, from)
+    scan_by(Reading::Rust, Rule::Blanks, text, from)
 }
 
 // Where the search for the `]` of a tag whose text begins at `from` stops: at the `]`, or where it fails.
 pub fn tag_stop(text: &[u8], from: usize) -> usize
     ensures { λ r. ⌜ r ≡ tagStop (now (text .entry)) from ⌝ }
 {
-    scan_by(Rule::Tag, text, from)
-}
-
-// The first place from `from` on at which a subscript stops.
-fn subscript_stop(reading: Reading, text: &[u8], from: usize) -> usize
-    ensures { λ r. ⌜ r ≡ subscriptStop (named reading) (now (text .entry)) from ⌝ }
-{
-    match reading {
-        Reading::Rust => scan_by(Rule::Subscript, text, from),
-        Reading::Strict => scan_by(Rule::StrictSubscript, text, from),
-    }
-}
-
-// The same of an italic.
-fn italic_stop(reading: Reading, text: &[u8], from: usize) -> usize
-    ensures { λ r. ⌜ r ≡ italicStop (named reading) (now (text .entry)) from ⌝ }
-{
-    match reading {
-        Reading::Rust => scan_by(Rule::Italic, text, from),
-        Reading::Strict => scan_by(Rule::StrictItalic, text, from),
-    }
+    scan_by(Reading::Rust, Rule::Tag, text, from)
 }
 
 // Where a subscript whose text begins at `from` ends, if it is one: it is not empty.
 pub fn subscript_end(reading: Reading, text: &[u8], from: usize) -> Place
     ensures { λ r. ⌜ r ≡ subscriptEnd (named reading) (now (text .entry)) from ⌝ }
 {
-    let j = subscript_stop(reading, text, from);
+    let j = scan_by(reading, Rule::Subscript, text, from);
     if from < j {
         Place::At(j)
     } else {
@@ -186,7 +162,7 @@ pub fn italic_end(reading: Reading, text: &[u8], from: usize) -> Place
     ensures { λ r. ⌜ r ≡ italicEnd (named reading) (now (text .entry)) from ⌝ }
 {
     if alphanumeric_at(text, from) {
-        let j = italic_stop(reading, text, from + 1);
+        let j = scan_by(reading, Rule::Italic, text, from + 1);
         closes_italic(text, j)
     } else {
         Place::Nowhere

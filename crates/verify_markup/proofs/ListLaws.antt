@@ -19,7 +19,7 @@ use Rattle.records.specs.Records.{laid}
 use Rattle.records.specs.declared.Wrote.{Wrote}
 use Rattle.records.proofs.Laying.{Laying, tail, back, laying-starts, laying-wrote, all-counted, all-laid}
 use Rattle.comment_parser.specs.Item.{placedOf}
-use Rattle.comment_parser.specs.State.{fresh}
+use Rattle.comment_parser.specs.State.{Accepted, fresh}
 use Rattle.comment_parser.specs.Events.{left, seen, eventsFrom}
 use Rattle.comment_parser.specs.Notes.{NextBy}
 use Rattle.comment_parser.specs.declared.CommentItem.{CommentItem}
@@ -30,7 +30,7 @@ use Rattle.comment_parser.specs.declared.ParserState.{ParserState}
 use Rattle.comment_parser.proofs.CommentItem.{the-type}
 use Rattle.comment_parser.proofs.Events.{events-on, events-end, events-start}
 use Rattle.comment_parser.proofs.InOrder.{given, seen-in-order, given-le}
-use Rattle.comment_parser.proofs.Along.{Along, along-starts, along-event, along-less, along-within, along-on}
+use Rattle.comment_parser.proofs.Along.{Along, along-starts, along-event, along-less, along-accepted, along-within, along-on}
 use Rattle.verify_markup.specs.Diag.{diagWidth, unclosedMathMarkup, unclosedHtml}
 use Rattle.verify_markup.specs.Items.{Names, itemDiags}
 use Rattle.verify_markup.specs.List.{isOpen, closed, modesAfter, unclosed, lastDiags, diagsFrom, diagnostics}
@@ -129,19 +129,21 @@ module _ (rd : Reading) (buf : List ℕ) (end : ℕ) (n : Names) (m : Modes) (st
 -- at the loop's head: the diagnostics from here on are to be laid behind those before, and the count fits
 pub record Going (rd : Reading) (n : Names) (buf : List ℕ) (start end : ℕ) (out₀ out : List ℕ) (st : ParserState) (note : Note) (m : Modes) (at k : ℕ) : Type 0 where
   pub along : Along rd buf st note
+  pub accepted : Accepted buf st
   pub to-end : st .end ≡ end
   pub opened : OpenedBoth (λ (i : ℕ). i ≤ longest) m
   pub few : k + 4 * left st + (end - given st) ≤ 9 * longest
   pub laying : Laying diagWidth (diagnostics rd n buf start end) (diagsFrom buf end n m (eventsFrom rd buf st)) out₀ out at k
 
-pub going-starts : (name : Name) (n : Names) (buf : List ℕ) (start end : ℕ) (out : List ℕ) (note : Note) → note .to ≡ 0 → end ≤ longest
+pub going-starts : (name : Name) (n : Names) (buf : List ℕ) (start end : ℕ) (out : List ℕ) (note : Note) → note .to ≡ 0 → Accepted buf (fresh name start end)
     → Going (named name) n buf start end out out (fresh name start end) note closed 0 0
 unfolding diagnostics
 going-starts name n buf start end out note z h = record {
   along = along-starts name buf start end note z;
+  accepted = h;
   to-end = refl;
   opened = (tt, tt);
-  few = omega arith;
+  few = omega (arith, h .short, h .fits);
   laying = rw (events-start name buf start end) (laying-starts diagWidth (diagnostics (named name) n buf start end) out);
 }
 
@@ -167,6 +169,7 @@ module _ {rd : Reading} {n : Names} {buf : List ℕ} {start end : ℕ} {out₀ o
         lies .0,
         record {
           along = next;
+          accepted = along-accepted (g .along) says e;
           to-end = less .same-end ∙ g .to-end;
           opened = opened-after (λ (j : ℕ). j ≤ longest) m i (omega (arith, fits .placed, fits .ordered, fits .below)) (g .opened);
           few = omega (arith, g .few, count, less .less, order .above, order .placed, order .ordered, order .below, given-le t (next .reached), less .within, less .same-end, g .to-end);

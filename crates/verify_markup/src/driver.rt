@@ -57,7 +57,7 @@ fn lay_all(
     let mut at: usize = 0;
     let mut n: usize = 0;
     loop {
-        let noted = st.next_noted(buf, note);
+        let noted = st.next_within(buf, note);
         let next = noted.next;
         let later = noted.note;
         let Next::Event(after, item) = next else {

@@ -14,8 +14,9 @@ use Rattle.records.specs.Records.{laid}
 use Rattle.records.proofs.Laying.{Laying, back, given-refused, all-counted, all-laid, listed-done, listed-short}
 use Rattle.byte_rules.specs.Reading.{Reading, named}
 use Rattle.comment_parser.specs.Events.{left}
+use Rattle.comment_parser.specs.Notes.{NextBy}
 use Rattle.comment_parser.specs.declared.ParserState.{ParserState}
-use Rattle.comment_parser.proofs.Along.{along-end, along-less, along-within}
+use Rattle.comment_parser.proofs.Along.{within-says, along-end, along-less, along-within}
 use Rattle.comment_parser.proofs.Giving.{Going, going-starts, going-on, going-ends}
 use Rattle.events.specs.Events.{eventWidth, placedFrom, placedRecords, eventRecords}
 use Rattle.events.proofs.Laws.{records-given, records-start, events-counted, events-laid}
@@ -62,10 +63,10 @@ loop-holds c =
     let a = c .before .before .before .before .before .before .before .args in
     let fits = span-accepted (length (a .buf .now)) (a .start) (a .end) (sym (good (c .before .before))) in
     rw (c .before .new .ensures, ← records-start (a .reading) (a .buf .now) (a .start) (a .end))
-    (going-starts (a .reading) eventWidth (a .buf .now) (placedFrom (named (a .reading)) (a .buf .now)) (a .start) (a .end) (a .out .now) (c .nothing .result) (c .nothing .ensures .1) (omega arith))
+    (going-starts (a .reading) eventWidth (a .buf .now) (placedFrom (named (a .reading)) (a .buf .now)) (a .start) (a .end) (a .out .now) (c .nothing .result) (c .nothing .ensures .1) (record { short = fits .0; inside = fits .1; fits = fits .2 }))
 
-next-noted-requires : tie.Need-next-noted-requires Inv-loop μ-loop
-next-noted-requires c κs = search needs
+next-within-requires : tie.Need-next-within-requires Inv-loop μ-loop
+next-within-requires c κs = search needs
 
 enum-known-next : tie.Need-enum-known-next Inv-loop μ-loop
 enum-known-next c = search needs
@@ -73,6 +74,10 @@ enum-known-next c = search needs
 -- the function's entry, seen from the loop's head
 abbrev entry : tie.At-loop Inv-loop μ-loop → tie.Start Inv-loop μ-loop
 entry l = l .before .before .before .before .before .before .before .before
+
+-- what the answer to the state at the loop's head tells, since that is accepted
+says : (c : tie.After-next-within Inv-loop μ-loop) → let l = c .before in NextBy (entry l .args .buf .now) (l .loop .st) (l .loop .note) (c .next-within .result)
+says c = within-says (c .before .loop .inv .accepted) (c .next-within .ensures)
 
 -- the reading that the first state names is the one that was asked for
 abbrev rd : tie.At-loop Inv-loop μ-loop → Reading
@@ -99,14 +104,14 @@ lay-event-requires : tie.Need-lay-event-requires Inv-loop μ-loop
 lay-event-requires c κs =
     let event = c .before .before in
     let call = event .before .before .before in
-    along-within (call .before .loop .inv .along) (call .next-noted .ensures) (event .next .given .1)
+    along-within (call .before .loop .inv .along) (says call) (event .next .given .1)
 
 -- a turn, seen from the place behind the record
 module _ (c : tie.After-lay-event Inv-loop μ-loop) where
   abbrev event : tie.After-next Inv-loop μ-loop
   event = c .before .before .before
 
-  abbrev call : tie.After-next-noted Inv-loop μ-loop
+  abbrev call : tie.After-next-within Inv-loop μ-loop
   call = event .before .before .before
 
   abbrev head : tie.At-loop Inv-loop μ-loop
@@ -118,10 +123,10 @@ module _ (c : tie.After-lay-event Inv-loop μ-loop) where
       let l = head .loop in
       let w = c .lay-event .result in
       (l .at + w .words ≤ length (l .out))
-      × Going (rd head) eventWidth (a .buf .now) (placedFrom (rd head) (a .buf .now)) (placedRecords (rd head) (a .buf .now) (a .start) (a .end)) (a .out .now) (back (l .at) (l .out) (c .lay-event .last .0)) (event .next .given .0 .0) (call .next-noted .result .note) (l .at + w .words) (l .n + w .count)
+      × Going (rd head) eventWidth (a .buf .now) (placedFrom (rd head) (a .buf .now)) (placedRecords (rd head) (a .buf .now) (a .start) (a .end)) (a .out .now) (back (l .at) (l .out) (c .lay-event .last .0)) (event .next .given .0 .0) (call .next-within .result .note) (l .at + w .words) (l .n + w .count)
 
   turned : Turned
-  turned = going-on (records-given _ _) (head .loop .inv) (call .next-noted .ensures) (event .next .given .1) (c .lay-event .ensures .0) (c .lay-event .ensures .1)
+  turned = going-on (records-given _ _) (head .loop .inv) (says call) (event .next .given .1) (c .lay-event .ensures .0) (c .lay-event .ensures .1)
 
 add-at : tie.Need-add-at Inv-loop μ-loop
 add-at c =
@@ -134,7 +139,7 @@ add-n c = omega (arith, turned (c .before .before .before .before) .1 .few)
 loop-less : tie.Need-loop-less Inv-loop μ-loop
 loop-less c =
     let laid = c .before .before .before .before in
-    along-less (head laid .loop .inv .along) (call laid .next-noted .ensures) (event laid .next .given .1) .less
+    along-less (head laid .loop .inv .along) (says (call laid)) (event laid .next .given .1) .less
 
 loop-again : tie.Need-loop-again Inv-loop μ-loop
 loop-again c = turned (c .before .before .before .before) .1
@@ -147,7 +152,7 @@ none-to-come : (c : tie.At-match2-keys2 Inv-loop μ-loop)
 none-to-come c =
     let call = c .before .before in
     let inv = call .before .loop .inv in
-    rw (is-asked (call .before)) at (going-ends (records-given _ _) inv (along-end (inv .along) (call .next-noted .ensures) (c .match2 .keys2)))
+    rw (is-asked (call .before)) at (going-ends (records-given _ _) inv (along-end (inv .along) (says call) (c .match2 .keys2)))
 
 fill-lines-requires : tie.Need-fill-lines-requires Inv-loop μ-loop
 fill-lines-requires c κs = search needs
@@ -201,7 +206,7 @@ events-spec =
     new-requires
     nothing-requires
     loop-holds
-    next-noted-requires
+    next-within-requires
     enum-known-next
     mul-lay-event
     sub-lay-event

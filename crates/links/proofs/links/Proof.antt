@@ -15,8 +15,9 @@ use Rattle.records.proofs.Laying.{Laying, back, given-refused, given-done, give
 use Rattle.name_table.specs.Table.{tableRefusal}
 use Rattle.byte_rules.specs.Reading.{Reading, named}
 use Rattle.comment_parser.specs.Events.{left}
+use Rattle.comment_parser.specs.Notes.{NextBy}
 use Rattle.comment_parser.specs.declared.ParserState.{ParserState}
-use Rattle.comment_parser.proofs.Along.{along-end, along-less, along-inside}
+use Rattle.comment_parser.proofs.Along.{within-says, along-end, along-less, along-inside}
 use Rattle.comment_parser.proofs.Giving.{Going, going-starts, going-on, going-ends}
 use Rattle.links.specs.Links.{linkWidth, linksOf, linksRefusal}
 use Rattle.links.proofs.Laws.{linksOn, links-given, links-start}
@@ -87,8 +88,8 @@ module _ (c : tie.After-enum-told2 Inv-loop μ-loop) where
   unfolding linksRefusal
   good = table-good ∙ the-other _ (span-good accepted)
 
-  fits : (length (start .args .buf .now) ≤ longest) × (start .args .end ≤ length (start .args .buf .now))
-  fits = let s = span-accepted _ _ _ (sym (span-good accepted)) in (s .0, s .2)
+  fits : (length (start .args .buf .now) ≤ longest) × (start .args .start ≤ start .args .end) × (start .args .end ≤ length (start .args .buf .now))
+  fits = span-accepted _ _ _ (sym (span-good accepted))
 
 new-requires : tie.Need-new-requires Inv-loop μ-loop
 new-requires c κs = search needs
@@ -101,10 +102,10 @@ loop-holds c =
     let t = c .before .before in
     let a = start t .args in
     rw (c .before .new .ensures, ← links-start (a .reading) (a .buf .now) (a .lb .now) (a .le .now) (a .start) (a .end))
-    (going-starts (a .reading) linkWidth (a .buf .now) (linksOn (named (a .reading)) (a .buf .now) (a .lb .now) (a .le .now)) (a .start) (a .end) (a .out .now) (c .nothing .result) (c .nothing .ensures .1) (omega (arith, fits t)))
+    (going-starts (a .reading) linkWidth (a .buf .now) (linksOn (named (a .reading)) (a .buf .now) (a .lb .now) (a .le .now)) (a .start) (a .end) (a .out .now) (c .nothing .result) (c .nothing .ensures .1) (record { short = fits t .0; inside = fits t .1; fits = fits t .2 }))
 
-next-noted-requires : tie.Need-next-noted-requires Inv-loop μ-loop
-next-noted-requires c κs = search needs
+next-within-requires : tie.Need-next-within-requires Inv-loop μ-loop
+next-within-requires c κs = search needs
 
 enum-known-next : tie.Need-enum-known-next Inv-loop μ-loop
 enum-known-next c = search needs
@@ -112,6 +113,10 @@ enum-known-next c = search needs
 -- the loop's head, and the place behind the checks
 abbrev checked : tie.At-loop Inv-loop μ-loop → tie.After-enum-told2 Inv-loop μ-loop
 checked l = l .before .before .before
+
+-- what the answer to the state at the loop's head tells, since that is accepted
+says : (c : tie.After-next-within Inv-loop μ-loop) → let l = c .before in NextBy (start (checked l) .args .buf .now) (l .loop .st) (l .loop .note) (c .next-within .result)
+says c = within-says (c .before .loop .inv .accepted) (c .next-within .ensures)
 
 -- the reading that the first state names is the one that was asked for
 abbrev rd : tie.At-loop Inv-loop μ-loop → Reading
@@ -139,14 +144,14 @@ lay-item-requires c κs =
     let e = c .before .before in
     let k = e .before .before .before in
     let t = checked (k .before) in
-    (fits t .0, along-inside (k .before .loop .inv .along) (k .next-noted .ensures) (e .next .given .1), table-good t)
+    (fits t .0, along-inside (k .before .loop .inv .along) (says k) (e .next .given .1), table-good t)
 
 -- a turn, seen from the place behind what the event gave
 module _ (c : tie.After-lay-item Inv-loop μ-loop) where
   abbrev event : tie.After-next Inv-loop μ-loop
   event = c .before .before .before
 
-  abbrev call : tie.After-next-noted Inv-loop μ-loop
+  abbrev call : tie.After-next-within Inv-loop μ-loop
   call = event .before .before .before
 
   abbrev head : tie.At-loop Inv-loop μ-loop
@@ -158,10 +163,10 @@ module _ (c : tie.After-lay-item Inv-loop μ-loop) where
       let l = head .loop in
       let w = c .lay-item .result in
       (l .at + w .words ≤ length (l .out))
-      × Going (rd head) linkWidth (a .buf .now) (linksOn (rd head) (a .buf .now) (a .lb .now) (a .le .now)) (linksOf (rd head) (a .buf .now) (a .lb .now) (a .le .now) (a .start) (a .end)) (a .out .now) (back (l .at) (l .out) (c .lay-item .last .1 .1 .1 .1 .0)) (event .next .given .0 .0) (call .next-noted .result .note) (l .at + w .words) (l .n + w .count)
+      × Going (rd head) linkWidth (a .buf .now) (linksOn (rd head) (a .buf .now) (a .lb .now) (a .le .now)) (linksOf (rd head) (a .buf .now) (a .lb .now) (a .le .now) (a .start) (a .end)) (a .out .now) (back (l .at) (l .out) (c .lay-item .last .1 .1 .1 .1 .0)) (event .next .given .0 .0) (call .next-within .result .note) (l .at + w .words) (l .n + w .count)
 
   turned : Turned
-  turned = going-on (links-given _ _ _ _) (head .loop .inv) (call .next-noted .ensures) (event .next .given .1) (c .lay-item .ensures .0) (c .lay-item .ensures .1)
+  turned = going-on (links-given _ _ _ _) (head .loop .inv) (says call) (event .next .given .1) (c .lay-item .ensures .0) (c .lay-item .ensures .1)
 
 add-at : tie.Need-add-at Inv-loop μ-loop
 add-at c =
@@ -174,7 +179,7 @@ add-n c = omega (arith, turned (c .before .before .before .before) .1 .few)
 loop-less : tie.Need-loop-less Inv-loop μ-loop
 loop-less c =
     let w = c .before .before .before .before in
-    along-less (head w .loop .inv .along) (call w .next-noted .ensures) (event w .next .given .1) .less
+    along-less (head w .loop .inv .along) (says (call w)) (event w .next .given .1) .less
 
 loop-again : tie.Need-loop-again Inv-loop μ-loop
 loop-again c = turned (c .before .before .before .before) .1
@@ -187,7 +192,7 @@ none-to-come : (c : tie.At-match3-keys2 Inv-loop μ-loop)
 none-to-come c =
     let call = c .before .before in
     let inv = call .before .loop .inv in
-    rw (is-asked (call .before)) at (going-ends (links-given _ _ _ _) inv (along-end (inv .along) (call .next-noted .ensures) (c .match3 .keys2)))
+    rw (is-asked (call .before)) at (going-ends (links-given _ _ _ _) inv (along-end (inv .along) (says call) (c .match3 .keys2)))
 
 same-length : tie.Need-same-length Inv-loop μ-loop
 same-length c = search needs
@@ -218,7 +223,7 @@ links-spec =
     new-requires
     nothing-requires
     loop-holds
-    next-noted-requires
+    next-within-requires
     enum-known-next
     mul-lay-item
     sub-lay-item

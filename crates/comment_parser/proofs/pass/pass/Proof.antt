@@ -14,8 +14,7 @@ use Rattle.scans.proofs.Laws.{scan-end, scan-one, scan-two, scan-stop}
 use Rattle.comment_parser.specs.Rules.{passAct}
 use Rattle.comment_parser.specs.Pass.{passStep}
 use Rattle.comment_parser.specs.Notes.{Acts}
-use Rattle.comment_parser.proofs.Laws.{step-is, ended, ran-out}
-use Rattle.comment_parser.proofs.Skipping.{skip-less}
+use Rattle.comment_parser.proofs.Laws.{step-is, ended, ran-out, skip-less}
 use Rattle.comment_parser.proofs.pass.pass.Statement.{statement}
 use Rattle.comment_parser.proofs.pass.pass.Tie as tie
 
@@ -42,7 +41,7 @@ returns c = λ h.
     record { is = rw (c .moved .ensures) (sym (ran-out _ _ _ _ ends)); holds = here .1 }
 
 pass-act-requires : tie.Need-pass-act-requires Inv-loop μ-loop
-pass-act-requires c κs = omega (arith, c .before .skip .ensures .onward (c .before .before .before .before .args .from) (omega arith) (omega arith))
+pass-act-requires c κs = omega (arith, skip-less _ _ _ _ (c .before .skip .ensures) (omega arith), c .before .before .loop .inv .0)
 
 -- at a place where a rule was asked: the scan comes there, and what the rule says
 module _ (c : tie.After-pass-act Inv-loop μ-loop) where
@@ -64,11 +63,11 @@ module _ (c : tie.After-pass-act Inv-loop μ-loop) where
   says : Holds text (entry .args .note) → Acts text (passAct (named (entry .args .st .reading)) text (entry .args .st) (entry .args .from) here) (c .pass-act .result)
   says h = c .pass-act .ensures (c .before .before .before .loop .inv .1 h .1)
 
-  onward : entry .args .from ≤ here
-  onward = c .before .before .skip .ensures .onward (entry .args .from) (omega arith) (omega arith)
-
   ahead : c .before .before .before .loop .p ≤ here
   ahead = skip-less _ _ _ _ (c .before .before .skip .ensures) (omega arith)
+
+  onward : entry .args .from ≤ here
+  onward = omega (arith, ahead, c .before .before .before .loop .inv .0)
 
 enum-told : tie.Need-enum-told Inv-loop μ-loop
 enum-told c = search needs

@@ -1,9 +1,7 @@
 -- `read_on` meets its contract: the run is given if it is not empty, else what ended it.
 -- Assumes nothing.
-use native.Mathlib.Omega.{arith}
 use borrow.Author.Tests.{lt-ltb, le-ltb}
 use Rattle.comment_parser.specs.Next.{readOn}
-use Rattle.comment_parser.proofs.Laws.{run-start-le}
 use borrow.Author.Needs.{needs}
 use Rattle.comment_parser.proofs.pass.read_on.Statement.{statement}
 use Rattle.comment_parser.proofs.pass.read_on.Tie as tie
@@ -12,7 +10,7 @@ run-start-requires : tie.Need-run-start-requires
 run-start-requires c κs = search needs
 
 pass-requires : tie.Need-pass-requires
-pass-requires c κs = rw (c .run-start .ensures) (run-start-le _ _ (omega arith))
+pass-requires c κs = search needs
 
 run-item-requires : tie.Need-run-item-requires
 run-item-requires c κs = search needs

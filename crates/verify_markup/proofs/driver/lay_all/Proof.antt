@@ -8,8 +8,9 @@ use lib.ListN.{length}
 use Rattle.byte_rules.specs.Reading.{Reading, named}
 use Rattle.records.proofs.Laying.{back}
 use Rattle.comment_parser.specs.Events.{left}
+use Rattle.comment_parser.specs.Notes.{NextBy}
 use Rattle.comment_parser.specs.declared.ParserState.{ParserState}
-use Rattle.comment_parser.proofs.Along.{along-end, along-less, along-inside}
+use Rattle.comment_parser.proofs.Along.{within-says, along-end, along-less, along-inside}
 use Rattle.verify_markup.specs.List.{modesAfter}
 use Rattle.verify_markup.specs.Lent.{lentNames}
 use Rattle.verify_markup.proofs.DiagLaws.{did-count}
@@ -34,10 +35,10 @@ loop-holds : tie.Need-loop-holds Inv-loop μ-loop
 loop-holds c =
     let s = c .before .before .before .before .before .before .before .before .before .before in
     let a = s .args in
-    rw (c .before .new .ensures) (going-starts (a .reading) _ (a .buf .now) (a .start) (a .end) (a .out .now) (c .nothing .result) (c .nothing .ensures .1) (omega (arith, s .pre .inside, s .pre .short)))
+    rw (c .before .new .ensures) (going-starts (a .reading) _ (a .buf .now) (a .start) (a .end) (a .out .now) (c .nothing .result) (c .nothing .ensures .1) (record { short = s .pre .short; inside = s .pre .order; fits = s .pre .inside }))
 
-next-noted-requires : tie.Need-next-noted-requires Inv-loop μ-loop
-next-noted-requires c κs = search needs
+next-within-requires : tie.Need-next-within-requires Inv-loop μ-loop
+next-within-requires c κs = search needs
 
 enum-known-next : tie.Need-enum-known-next Inv-loop μ-loop
 enum-known-next c = search needs
@@ -57,11 +58,15 @@ part-lay-item-start c = search needs
 part-lay-item-end : tie.Need-part-lay-item-end Inv-loop μ-loop
 part-lay-item-end c = search needs
 
+-- what the answer to the state at the loop's head tells, since that is accepted
+says : (c : tie.After-next-within Inv-loop μ-loop) → let l = c .before in NextBy (l .before .before .before .before .before .before .before .before .before .before .before .args .buf .now) (l .loop .st) (l .loop .note) (c .next-within .result)
+says c = within-says (c .before .loop .inv .accepted) (c .next-within .ensures)
+
 lay-item-requires : tie.Need-lay-item-requires Inv-loop μ-loop
 lay-item-requires c κs =
     let e = c .before .before .before in
     let k = e .before .before .before in
-    (k .before .before .before .before .before .before .before .before .before .before .before .before .pre .short, along-inside (k .before .loop .inv .along) (k .next-noted .ensures) (e .next .given .1))
+    (k .before .before .before .before .before .before .before .before .before .before .before .before .pre .short, along-inside (k .before .loop .inv .along) (says k) (e .next .given .1))
 
 -- the reading that the first state names is the one that was asked for
 abbrev rd : tie.At-loop Inv-loop μ-loop → Reading
@@ -75,7 +80,7 @@ module _ (c : tie.After-lay-item Inv-loop μ-loop) where
   abbrev event : tie.After-next Inv-loop μ-loop
   event = c .before .before .before .before
 
-  abbrev call : tie.After-next-noted Inv-loop μ-loop
+  abbrev call : tie.After-next-within Inv-loop μ-loop
   call = event .before .before .before
 
   abbrev after : ParserState
@@ -88,11 +93,11 @@ module _ (c : tie.After-lay-item Inv-loop μ-loop) where
       let w = c .lay-item .result in
       (l .at + w .words ≤ length (l .out))
       × Going (rd (call .before)) (lentNames (a .sb .now) (a .se .now) (a .lb .now) (a .le .now) (a .tags) (a .bb .now) (a .be .now)) (a .buf .now) (a .start) (a .end) (a .out .now)
-      (back (l .at) (l .out) (c .lay-item .last .1 .1 .1 .1 .1 .1 .1 .1 .1 .1 .0)) after (call .next-noted .result .note) (modesAfter (l .modes) (event .next .given .0 .1 .0)) (l .at + w .words) (l .n + w .count)
+      (back (l .at) (l .out) (c .lay-item .last .1 .1 .1 .1 .1 .1 .1 .1 .1 .1 .0)) after (call .next-within .result .note) (modesAfter (l .modes) (event .next .given .0 .1 .0)) (l .at + w .words) (l .n + w .count)
 
   turned : Turned
   turned =
-      going-on (call .before .loop .inv) (call .next-noted .result) (call .next-noted .ensures) (event .next .given .0 .1 .0) after (event .next .given .1)
+      going-on (call .before .loop .inv) (call .next-within .result) (says call) (event .next .given .0 .1 .0) after (event .next .given .1)
       (c .before .before .in-html .result) (c .before .before .in-html .ensures) (c .lay-item .result) _ (c .lay-item .ensures)
 
 add-at : tie.Need-add-at Inv-loop μ-loop
@@ -111,7 +116,7 @@ loop-less : tie.Need-loop-less Inv-loop μ-loop
 loop-less c =
     let e = event (c .before .before .before .before .before) in
     let k = call (c .before .before .before .before .before) in
-    along-less (k .before .loop .inv .along) (k .next-noted .ensures) (e .next .given .1) .less
+    along-less (k .before .loop .inv .along) (says k) (e .next .given .1) .less
 
 loop-again : tie.Need-loop-again Inv-loop μ-loop
 loop-again c = rw (c .after .ensures) (turned (c .before .before .before .before .before) .1)
@@ -151,7 +156,7 @@ returns c =
     let k = m .before .before in
     let g = k .before .loop .inv in
     let a = k .before .before .before .before .before .before .before .before .before .before .before .before .args in
-    last-laid (rw (is-asked (k .before)) at (going-ends g (along-end (g .along) (k .next-noted .ensures) (m .match .keys2)))) (few-last (a .end) (k .before .loop .modes)) (z .lay-last .result) _ (z .lay-last .ensures)
+    last-laid (rw (is-asked (k .before)) at (going-ends g (along-end (g .along) (says k) (m .match .keys2)))) (few-last (a .end) (k .before .loop .modes)) (z .lay-last .result) _ (z .lay-last .ensures)
 
 pub lay-all-spec : {M : Type 1} → statement M
 lay-all-spec =
@@ -162,7 +167,7 @@ lay-all-spec =
     new-requires
     nothing-requires
     loop-holds
-    next-noted-requires
+    next-within-requires
     enum-known-next
     in-html-requires
     mul-lay-item
