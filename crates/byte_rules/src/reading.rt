@@ -3,7 +3,7 @@ ghost use Rattle.std.specs.Prelude.{◌≡◌};
 ghost use Rattle.byte_rules.specs.Reading.{is_mark, named};
 
 // A reading, chosen by name.
-#[derive(Drop)]
+#[derive(Clone, Copy)]
 pub enum Reading {
     Rust,
     Strict,

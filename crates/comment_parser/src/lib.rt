@@ -18,7 +18,7 @@ use records::{Checked, Refusal, check_state};
 use scans::Note;
 
 // An event of a comment: a text, a token or a tag by its span, a label or url by its tilde's place and its span, any other by its place.
-#[derive(Drop)]
+#[derive(Clone, Copy)]
 pub enum CommentItem {
     Text(Span),
     LineBreak(usize),
@@ -37,7 +37,7 @@ pub enum CommentItem {
 }
 
 // An item as its record: kind, place, start, end.
-#[derive(Drop)]
+#[derive(Clone, Copy)]
 pub struct Placed {
     pub kind: u32,
     pub place: usize,
@@ -122,7 +122,7 @@ fn spread(kind: u32, at: usize, s: Span) -> Placed
 }
 
 // An event that waits to be given, if there is one.
-#[derive(Drop)]
+#[derive(Clone, Copy)]
 pub enum Waiting {
     Nothing,
     Item(CommentItem),
@@ -130,7 +130,7 @@ pub enum Waiting {
 
 // Where a parser stands: the end it reads to, its position, its modes, the reading that it goes by, the event that waits, and the noted ends of an italic
 // and a subscript.
-#[derive(Drop)]
+#[derive(Clone, Copy)]
 pub struct ParserState {
     pub end: usize,
     pub pos: usize,
@@ -143,7 +143,7 @@ pub struct ParserState {
 }
 
 // What a rule says: step one, step two, or end the run at a place, with the state after it.
-#[derive(Drop)]
+#[derive(Clone, Copy)]
 pub enum Act {
     One,
     Two,
@@ -151,21 +151,21 @@ pub enum Act {
 }
 
 // The note about tags as it stands after a rule, and what the rule says.
-#[derive(Drop)]
+#[derive(Clone, Copy)]
 pub struct Acted {
     pub note: Note,
     pub act: Act,
 }
 
 // The state after a run, and the run's end.
-#[derive(Drop)]
+#[derive(Clone, Copy)]
 pub struct Run {
     pub after: ParserState,
     pub end: usize,
 }
 
 // An answer of `next`: the state after it first, which so lies at one place in each, and then what is given.
-#[derive(Drop)]
+#[derive(Clone, Copy)]
 pub enum Next {
     Event(ParserState, CommentItem),
     End(ParserState),
@@ -173,14 +173,14 @@ pub enum Next {
 }
 
 // A run, and the note as it stands after it.
-#[derive(Drop)]
+#[derive(Clone, Copy)]
 pub struct RunNoted {
     pub run: Run,
     pub note: Note,
 }
 
 // An answer, and the note to go on with.
-#[derive(Drop)]
+#[derive(Clone, Copy)]
 pub struct NextNoted {
     pub next: Next,
     pub note: Note,

@@ -14,7 +14,7 @@ use records::{Checked, Refusal, check_span};
 pub use unescaping::Form;
 
 // What a step gives. The state after it is left where the state was.
-#[derive(Drop)]
+#[derive(Clone, Copy)]
 pub enum NextItem {
     Event(CommentItem),
     End,
@@ -22,7 +22,7 @@ pub enum NextItem {
 }
 
 // What a step gives, and the state after it.
-#[derive(Drop)]
+#[derive(Clone, Copy)]
 struct Stepped {
     next: NextItem,
     state: ParserState,
@@ -59,14 +59,14 @@ pub fn advance(st: &mut ParserState, buf: &[u8]) -> NextItem
 }
 
 // A buffer, and where a parser of it stands.
-#[derive(Drop)]
+#[derive(Clone, Copy)]
 pub struct View<'a> {
     pub buf: &'a [u8],
     pub state: ParserState,
 }
 
 // A view, beside the answer to the span that it was asked for.
-#[derive(Drop)]
+#[derive(Clone, Copy)]
 pub struct Opened<'a> {
     pub answer: Checked,
     pub view: View<'a>,

@@ -13,7 +13,7 @@ use lines::fill_lines;
 use records::{Checked, Filled, check_span, lay};
 
 // Where a listing stands: whether it goes on, the words that it has written, and how many events there were.
-#[derive(Drop)]
+#[derive(Clone, Copy)]
 pub struct Listing {
     pub going: bool,
     pub words: usize,

@@ -8,7 +8,7 @@ use comment_parser::ParserState;
 use records::Filled;
 
 // What a span is read as.
-#[derive(Drop)]
+#[derive(Clone, Copy)]
 pub enum Form {
     Text,
     Label,

@@ -12,7 +12,7 @@ pub use ordering::compare;
 pub use reading::read_date;
 pub use writing::write_date;
 
-#[derive(Drop)]
+#[derive(Clone, Copy)]
 pub struct Date {
     pub year: u16,
     pub month: u8,
@@ -20,14 +20,14 @@ pub struct Date {
 }
 
 // What some bytes are, read as a date.
-#[derive(Drop)]
+#[derive(Clone, Copy)]
 pub enum DateRead {
     Read(Date),
     NoDate,
 }
 
 // How a date stands to another.
-#[derive(Drop)]
+#[derive(Clone, Copy)]
 pub enum Order {
     Earlier,
     Equal,

@@ -9,7 +9,7 @@ use crate::{Date, DateRead, letter};
 use byte_rules::is_digit;
 
 // What some bytes are, read as a number.
-#[derive(Drop)]
+#[derive(Clone, Copy)]
 enum Number {
     Is(u16),
     No,

@@ -6,7 +6,7 @@ ghost use Rattle.lines.specs.Cursor.{Clear, LineEnd, IsLine};
 use crate::count::lines_between;
 
 // A line by its number, from a place of it on to its end: its LF, or the buffer's end.
-#[derive(Drop)]
+#[derive(Clone, Copy)]
 pub struct Line {
     pub from: usize,
     pub to: usize,

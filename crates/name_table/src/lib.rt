@@ -12,14 +12,14 @@ pub use searching::search;
 use unescape::Escape;
 
 // How a text spells a name: as it stands, or with escapes.
-#[derive(Drop)]
+#[derive(Clone, Copy)]
 pub enum Spelling {
     Plain,
     Escaped(Escape),
 }
 
 // How a name stands to another.
-#[derive(Drop)]
+#[derive(Clone, Copy)]
 pub enum Order {
     Less,
     Same,
@@ -27,14 +27,14 @@ pub enum Order {
 }
 
 // The number of an entry, or that there is none.
-#[derive(Drop)]
+#[derive(Clone, Copy)]
 pub enum Entry {
     At(usize),
     Nothing,
 }
 
 // The number of a name's entry in a table that is lent alone, or that it is not there, or that table's refusal.
-#[derive(Drop)]
+#[derive(Clone, Copy)]
 pub enum Known {
     At(usize),
     Nothing,

@@ -10,7 +10,7 @@ use byte_rules::Reading;
 pub use list::{PARENTHETICAL_WIDTH, parentheticals};
 use records::Refusal;
 
-#[derive(Drop)]
+#[derive(Clone, Copy)]
 pub enum Parenthetical {
     // `(Contributed by Foo Bar, 12-Mar-2020.)`
     ContributedBy { author: Span, date: Span },
@@ -25,14 +25,14 @@ pub enum Parenthetical {
 }
 
 // A parenthetical, with the span of the whole.
-#[derive(Drop)]
+#[derive(Clone, Copy)]
 pub struct Found {
     pub whole: Span,
     pub item: Parenthetical,
 }
 
 // How far a span's parentheticals are read, and in which reading: the next is looked for from `position` on, in the buffer up to `end`.
-#[derive(Drop)]
+#[derive(Clone, Copy)]
 pub struct ParentheticalState {
     pub reading: Reading,
     pub position: usize,
@@ -40,14 +40,14 @@ pub struct ParentheticalState {
 }
 
 // What the maker of a fresh state answers.
-#[derive(Drop)]
+#[derive(Clone, Copy)]
 pub enum Started {
     Ready(ParentheticalState),
     Refused(Refusal),
 }
 
 // What a step answers: the next parenthetical, or that there is none.
-#[derive(Drop)]
+#[derive(Clone, Copy)]
 pub enum NextParenthetical {
     Next(Found),
     End,
@@ -55,20 +55,20 @@ pub enum NextParenthetical {
 }
 
 // A step, and the state after it.
-#[derive(Drop)]
+#[derive(Clone, Copy)]
 pub struct Stepped {
     pub step: NextParenthetical,
     pub state: ParentheticalState,
 }
 
 // What a comment discourages.
-#[derive(Drop)]
+#[derive(Clone, Copy)]
 pub struct Discouragements {
     pub modification_discouraged: bool,
     pub usage_discouraged: bool,
 }
 
-#[derive(Drop)]
+#[derive(Clone, Copy)]
 pub enum Flagged {
     Flags(Discouragements),
     Refused(Refusal),

@@ -17,27 +17,27 @@ pub const PROOF_MODIFICATION: [u8; 35] = *b"Proof modification is discouraged.)"
 pub const NEW_USAGE: [u8; 26] = *b"New usage is discouraged.)";
 
 // A kind, and the place behind what tells it.
-#[derive(Drop)]
+#[derive(Clone, Copy)]
 pub enum Head {
     Kind(u8, usize),
     NoKind,
 }
 
 // What closes a credit: its author's end, its date, and its own end.
-#[derive(Drop)]
+#[derive(Clone, Copy)]
 pub struct Closing {
     pub author_end: usize,
     pub date: Span,
     pub end: usize,
 }
 
-#[derive(Drop)]
+#[derive(Clone, Copy)]
 pub enum Tail {
     Closed(Closing),
     Unclosed,
 }
 
-#[derive(Drop)]
+#[derive(Clone, Copy)]
 pub enum Search {
     Hit(Found),
     Nothing,

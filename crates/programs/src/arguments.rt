@@ -6,7 +6,7 @@ use byte_rules::Reading;
 use look::word_at;
 
 // A reading, or nothing that the program knows.
-#[derive(Drop)]
+#[derive(Clone, Copy)]
 pub enum Asked {
     Read(Reading),
     WrongUse,

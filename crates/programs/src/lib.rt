@@ -9,14 +9,14 @@ pub use lines::refusal_number;
 pub use reading::read_input;
 
 // What came on standard input: so many bytes, or an error.
-#[derive(Drop)]
+#[derive(Clone, Copy)]
 pub enum Input {
     Bytes(usize),
     Failed,
 }
 
 // Standard input, part by part: what of a lent buffer is read and not yet taken, and whether a read failed.
-#[derive(Drop)]
+#[derive(Clone, Copy)]
 pub struct Source {
     pub at: usize,
     pub end: usize,
@@ -24,14 +24,14 @@ pub struct Source {
 }
 
 // What was taken of a source: how many bytes, and what is left.
-#[derive(Drop)]
+#[derive(Clone, Copy)]
 pub struct Taken {
     pub source: Source,
     pub count: usize,
 }
 
 // Standard output: how many bytes of a lent buffer wait to be written, and whether every write went well so far.
-#[derive(Drop)]
+#[derive(Clone, Copy)]
 pub struct Output {
     pub used: usize,
     pub good: bool,

@@ -10,7 +10,7 @@ pub const LONGEST: usize = 4294967295;
 pub const INPUT_LIMIT: usize = 65536;
 
 // Why a call or a program refuses its input: document 01's numbers 1 to 6 and 8, in its order.
-#[derive(Drop)]
+#[derive(Clone, Copy)]
 pub enum Refusal {
     TooLong,
     BadSpan,
@@ -22,7 +22,7 @@ pub enum Refusal {
 }
 
 // What a call that fills lent room answers: how many records, or bytes, there are, all of them written; that the room is too short for that many; or a refusal.
-#[derive(Drop)]
+#[derive(Clone, Copy)]
 pub enum Filled {
     Done(usize),
     Short(usize),
@@ -30,14 +30,14 @@ pub enum Filled {
 }
 
 // What a check of the input finds.
-#[derive(Drop)]
+#[derive(Clone, Copy)]
 pub enum Checked {
     Good,
     Refused(Refusal),
 }
 
 // What a writer of some records did: the words that it wrote, and how many records there were.
-#[derive(Drop)]
+#[derive(Clone, Copy)]
 pub struct Wrote {
     pub words: usize,
     pub count: usize,

@@ -9,7 +9,7 @@ use parentheticals::{
 use programs::{Output, refusal_number};
 
 // How many parentheticals some steps gave, and whether the last step answered the end.
-#[derive(Drop)]
+#[derive(Clone, Copy)]
 struct Counted {
     count: u32,
     is_end: bool,
@@ -48,7 +48,7 @@ fn count_steps(from: ParentheticalState, buf: &[u8], most: u32) -> Counted {
 }
 
 // A parenthetical's kind, author and date, as its record has them.
-#[derive(Drop)]
+#[derive(Clone, Copy)]
 struct Parts {
     kind: u64,
     author: Span,

@@ -21,7 +21,7 @@ pub fn reading(payload: &[u8], output: Output, out: &mut [u8]) -> Told {
 }
 
 // The date of a header's numbers, if each of them fits.
-#[derive(Drop)]
+#[derive(Clone, Copy)]
 enum Numbers {
     Are(Date),
     DoNotFit,

@@ -5,7 +5,7 @@ ghost use Rattle.replay.specs.Headers.{word_at, header_of};
 use byte_rules::Reading;
 
 // Op, flag, reading, three numbers, the room lent and the length of the payload.
-#[derive(Drop)]
+#[derive(Clone, Copy)]
 pub struct Header {
     pub op: u8,
     pub flag: u8,
@@ -48,7 +48,7 @@ pub fn read_header(s: &[u8]) -> Header
 }
 
 // What a header says of the reading: its name, or none.
-#[derive(Drop)]
+#[derive(Clone, Copy)]
 pub enum Named {
     Is(Reading),
     IsNone,

@@ -30,7 +30,7 @@ use texts::fill;
 
 // What goes from case to case: the input not yet taken, the tables that are lent, the output so far, whether to go on, and whether
 // the input ended between two cases. Not to go on without that end means that there was no case.
-#[derive(Drop)]
+#[derive(Clone, Copy)]
 struct State {
     source: Source,
     tables: Tables,
@@ -175,7 +175,7 @@ fn answer(
 }
 
 // What stands next in the input: a case, with the input behind it, or none, or the end.
-#[derive(Drop)]
+#[derive(Clone, Copy)]
 enum Read {
     Case(Source, Header),
     NoCase,

@@ -8,7 +8,7 @@ use basics::least;
 use programs::Output;
 
 // What became of a case: whether it was one, and the output after it.
-#[derive(Drop)]
+#[derive(Clone, Copy)]
 pub struct Told {
     pub is_case: bool,
     pub output: Output,

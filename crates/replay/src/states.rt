@@ -7,7 +7,7 @@ use byte_rules::Reading;
 use comment_parser::{CommentItem, ParserState, Placed, Waiting};
 
 // What words say: a state, or none.
-#[derive(Drop)]
+#[derive(Clone, Copy)]
 pub enum Words {
     Are(ParserState),
     AreNone,

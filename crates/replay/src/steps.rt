@@ -9,7 +9,7 @@ use programs::{Output, refusal_number};
 use records::Filled;
 
 // What some steps came to: the last answer, how many events there were, whether the last answer was the end, and the state after it.
-#[derive(Drop)]
+#[derive(Clone, Copy)]
 struct Walked {
     answer: u64,
     count: u32,

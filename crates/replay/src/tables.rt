@@ -6,7 +6,7 @@ use crate::header::{Header, word};
 use programs::{Source, Taken};
 
 // Where a table stands: its names' bytes in the one area, its ends in the other.
-#[derive(Drop)]
+#[derive(Clone, Copy)]
 pub struct Table {
     pub from: usize,
     pub to: usize,
@@ -15,7 +15,7 @@ pub struct Table {
 }
 
 // The tables that stand. Where no bibliography is lent the third is empty.
-#[derive(Drop)]
+#[derive(Clone, Copy)]
 pub struct Tables {
     pub symbols: Table,
     pub labels: Table,
@@ -24,7 +24,7 @@ pub struct Tables {
 }
 
 // What became of a case that lends a table: whether it was one, the tables that stand now, and the input that is left.
-#[derive(Drop)]
+#[derive(Clone, Copy)]
 pub struct Lending {
     pub source: Source,
     pub tables: Tables,
@@ -73,7 +73,7 @@ pub fn ends_of(ends: &[u32], table: Table) -> &[u32]
 }
 
 // A table's part of the areas: where it begins, and how many bytes and ends it has.
-#[derive(Drop)]
+#[derive(Clone, Copy)]
 struct Part {
     from: usize,
     bytes: usize,
@@ -110,7 +110,7 @@ fn part_of(flag: u8) -> Part
 }
 
 // Where a table goes, if its numbers are those of a case.
-#[derive(Drop)]
+#[derive(Clone, Copy)]
 enum Spot {
     Of(Table),
     Nowhere,
@@ -139,7 +139,7 @@ fn spot_of(part: Part, a: usize, n: usize) -> Spot
 }
 
 // A word of the input, and how many of its bytes were there.
-#[derive(Drop)]
+#[derive(Clone, Copy)]
 struct Word {
     source: Source,
     value: u32,
@@ -180,7 +180,7 @@ fn take_words(source: Source, input: &mut [u8], to: &mut [u32]) -> Taken {
 }
 
 // What was read of a table: whether all of it was there, and the input that is left.
-#[derive(Drop)]
+#[derive(Clone, Copy)]
 struct Read {
     source: Source,
     is_whole: bool,

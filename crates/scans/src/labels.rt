@@ -68,7 +68,7 @@ fn label_step(text: &[u8], i: usize, note: Note) -> Step
 }
 
 // A label's end, and the note as it stands there.
-#[derive(Drop)]
+#[derive(Clone, Copy)]
 pub struct LabelEnd {
     pub end: usize,
     pub note: Note,

@@ -14,7 +14,7 @@ use look::{
     alphanumeric_at, bars_italic_at, bars_subscript_at, blank_at, byte_at, closer_at, doubled_at,
 };
 
-#[derive(Drop)]
+#[derive(Clone, Copy)]
 pub enum Step {
     One,
     Two,
@@ -22,7 +22,7 @@ pub enum Step {
 }
 
 // The rule that a scan goes by; the last two look at the reading.
-#[derive(Drop)]
+#[derive(Clone, Copy)]
 pub enum Rule {
     Blanks,
     Tag,
@@ -31,7 +31,7 @@ pub enum Rule {
 }
 
 // What a search for a tag's end that failed tells: no `[` from `from` on and before `to` opens a tag.
-#[derive(Drop)]
+#[derive(Clone, Copy)]
 pub struct Note {
     pub from: usize,
     pub to: usize,

@@ -11,7 +11,7 @@ use records::{Checked, Filled, check_span};
 use scans::plain::plain_end;
 
 // Whose escapes they are: a Text's, in HTML or outside it; a Label's or a Url's; a MathToken's.
-#[derive(Drop)]
+#[derive(Clone, Copy)]
 pub enum Escape {
     Text { html: bool },
     Label,

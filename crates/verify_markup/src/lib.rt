@@ -19,14 +19,14 @@ pub use kinds::DIAG_WIDTH;
 use records::Filled;
 
 // Where math and HTML were opened, if they are open.
-#[derive(Drop)]
+#[derive(Clone, Copy)]
 pub struct Modes {
     pub math: Place,
     pub html: Place,
 }
 
 // Tags are looked up in the third table, or, by the named choice, not looked up.
-#[derive(Drop)]
+#[derive(Clone, Copy)]
 pub enum TagLookup {
     LookedUp,
     NotLookedUp,
