@@ -1,0 +1,20 @@
+-- `line_end` meets its contract: no LF stands from `from` to where the search has come.
+-- Assumes nothing.
+use Prim.Native.Nat.{◌-◌}
+use native.Mathlib.Omega.{arith}
+use lib.ListN.{length}
+use Rattle.lines.specs.Cursor.{Clear}
+use Rattle.lines.proofs.Moving.{clear_none, clear_on, clear_step}
+use Rattle.lines.proofs.cursor.line_end.Given as goal
+
+abbrev pub invariant-loop-far : goal.invariant-loop-far
+invariant-loop-far l = Clear l.buf l.from l.far
+
+abbrev pub decreases-loop-far : goal.decreases-loop-far
+decreases-loop-far l = length l.buf - l.far
+
+abbrev pub invariant-loop-i : goal.invariant-loop-i
+invariant-loop-i l = Clear l.buf l.from l.i
+
+abbrev pub decreases-loop-i : goal.decreases-loop-i
+decreases-loop-i l = length l.buf - l.i
