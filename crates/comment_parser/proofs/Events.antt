@@ -112,7 +112,7 @@ module _ (rd : Reading) (buf : List ℕ) (P : ParserState → Type 0) (R : Comme
       found p e later (Memᴰ.tail t) = later (on st p e x).1 i t
 
       go : ((t : ParserState) → left t < n → Every t) → (o : Option (CommentItem × ParserState)) → seen rd buf st ≡ o → R i
-      go later none e = absurd (Memᴰ.not_nil (rw (events_end rd buf st e) at m))
+      go later none e = absurd (Memᴰ.not-nil (rw (events_end rd buf st e) at m))
       go later (some p) e = found p e (later p.1 (omega (arith, (seen_on rd buf st p e).less))) (rw (events_on rd buf st p.0 p.1 e) at m)
 
   -- P along the way, and R of each event on it

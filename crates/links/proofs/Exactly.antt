@@ -39,28 +39,28 @@ module _ (buf bytes ends : List ℕ) (a e k : ℕ) where
       let same_e : e ≡ d = cc in
       let same_k : k ≡ m = cc in
       ((t, rw (same_a, same_e)), rw (same_a, same_e, same_k) q)
-  from_link t b d Nothing q h = absurd (Memᴰ.not_nil h)
+  from_link t b d Nothing q h = absurd (Memᴰ.not-nil h)
 
   from_item : (i : CommentItem) → In (a ∷ e ∷ k ∷ []) (item_links buf bytes ends i) → HasSpan i × HasEntry
   unfolding label_links
-  from_item (Text s) h = absurd (Memᴰ.not_nil h)
-  from_item (LineBreak i) h = absurd (Memᴰ.not_nil h)
-  from_item (StartMathMode i) h = absurd (Memᴰ.not_nil h)
-  from_item (EndMathMode i) h = absurd (Memᴰ.not_nil h)
-  from_item (MathToken s) h = absurd (Memᴰ.not_nil h)
+  from_item (Text s) h = absurd (Memᴰ.not-nil h)
+  from_item (LineBreak i) h = absurd (Memᴰ.not-nil h)
+  from_item (StartMathMode i) h = absurd (Memᴰ.not-nil h)
+  from_item (EndMathMode i) h = absurd (Memᴰ.not-nil h)
+  from_item (MathToken s) h = absurd (Memᴰ.not-nil h)
   from_item (Label i s) h = from_link i s.start s.end (entry_of bytes ends (name_of buf s.start s.end)) refl h
-  from_item (Url i s) h = absurd (Memᴰ.not_nil h)
-  from_item (StartHtml i) h = absurd (Memᴰ.not_nil h)
-  from_item (EndHtml i) h = absurd (Memᴰ.not_nil h)
-  from_item (StartSubscript i) h = absurd (Memᴰ.not_nil h)
-  from_item (EndSubscript i) h = absurd (Memᴰ.not_nil h)
-  from_item (StartItalic i) h = absurd (Memᴰ.not_nil h)
-  from_item (EndItalic i) h = absurd (Memᴰ.not_nil h)
-  from_item (BibTag s) h = absurd (Memᴰ.not_nil h)
+  from_item (Url i s) h = absurd (Memᴰ.not-nil h)
+  from_item (StartHtml i) h = absurd (Memᴰ.not-nil h)
+  from_item (EndHtml i) h = absurd (Memᴰ.not-nil h)
+  from_item (StartSubscript i) h = absurd (Memᴰ.not-nil h)
+  from_item (EndSubscript i) h = absurd (Memᴰ.not-nil h)
+  from_item (StartItalic i) h = absurd (Memᴰ.not-nil h)
+  from_item (EndItalic i) h = absurd (Memᴰ.not-nil h)
+  from_item (BibTag s) h = absurd (Memᴰ.not-nil h)
 
   from_links : (is : List CommentItem) → In (a ∷ e ∷ k ∷ []) (links_from buf bytes ends is) → ((tilde : ℕ) × In (Label tilde (span a e)) is) × HasEntry
   unfolding links_from
-  from_links [] h = absurd (Memᴰ.not_nil h)
+  from_links [] h = absurd (Memᴰ.not-nil h)
   from_links (i ∷ is) h = go (Memᴰ.append_cases (item_links buf bytes ends i) h) (from_links is)
     where
       go : In (a ∷ e ∷ k ∷ []) (item_links buf bytes ends i) ⊎ In (a ∷ e ∷ k ∷ []) (links_from buf bytes ends is)

@@ -41,7 +41,7 @@ abbrev Others : List (List ℕ) → Type 0
 Others ws = (w : List ℕ) → In w ws → kind_of w ≡ 8 → ⊥
 
 others_none : Others []
-others_none w m k = Memᴰ.not_nil m
+others_none w m k = Memᴰ.not-nil m
 
 others_append : (ws : List (List ℕ)) {vs : List (List ℕ)} → Others ws → Others vs → Others (ws ++ vs)
 others_append ws {vs} p q w m k = go (Memᴰ.append_cases ws m)
@@ -53,7 +53,7 @@ others_append ws {vs} p q w m k = go (Memᴰ.append_cases ws m)
 -- a record that is there by a test
 when_in : (t : Bool) (v w : List ℕ) → In w (when t v) → (w ≡ v) × (t ≡ true)
 when_in true v w m = (Memᴰ.eq_of_singleton m, refl)
-when_in false v w m = absurd (Memᴰ.not_nil m)
+when_in false v w m = absurd (Memᴰ.not-nil m)
 
 others_when : (t : Bool) (v : List ℕ) → (kind_of v ≡ 8 → ⊥) → Others (when t v)
 others_when t v d w m k = d (rw (← (when_in t v w m).0) k)

@@ -1,0 +1,12 @@
+-- `run_start` meets its contract.
+-- Assumes nothing.
+use Rattle.comment_parser.specs.Pass.{run_start}
+use Rattle.comment_parser.proofs.pass.run_start.Goals as goal
+
+pub returns-then-st : goal.returns-then-st
+unfolding run_start
+returns-then-st c = rw (run_start, c.if-st.true) c.blanks_end.ensures
+
+pub returns-else-st : goal.returns-else-st
+unfolding run_start
+returns-else-st c = rw (run_start, c.if-st.false)

@@ -1,0 +1,52 @@
+-- `name_table::ordering::order_of` meets its contract. The loop's invariant: the order of what is left of both names is their order.
+-- Assumes nothing.
+use Prim.Native.Nat.{◌-◌}
+use mathlib.Core.Path.{◌≡◌, refl, sym, ◌∙◌}
+use native.Mathlib.Omega.{arith}
+use lib.ListN.{drop, get_or}
+use Rattle.name_table.specs.Order.{order_of}
+use Rattle.name_table.specs.Spelling.{spelled, step_of}
+use Rattle.name_table.specs.declared.Spelling.TheVariants.{Plain}
+use Rattle.name_table.proofs.SpellingLaws.{compare_short, compare_lower, compare_higher, compare_equal, compare_longer, compare_over}
+use Rattle.name_table.proofs.ordering.order_of.Goals as goal
+
+pub loop-k-init : goal.loop-k-init
+loop-k-init c = refl
+
+pub returns-then-a-b : goal.returns-then-a-b
+unfolding spelled
+returns-then-a-b c =
+    let l = c in
+    sym (compare_lower _ Plain _ l.loop-k.k l.loop-k.k (omega arith) (omega arith) c.if-a-b.true) ∙ l.loop-k.invariant
+
+pub returns-then-b-a : goal.returns-then-b-a
+unfolding spelled
+returns-then-b-a c =
+    let l = c in
+    sym (compare_higher _ Plain _ l.loop-k.k l.loop-k.k (omega arith) (omega arith) c.if-b-a.true) ∙ l.loop-k.invariant
+
+pub loop-k-preserved : goal.loop-k-preserved
+unfolding spelled step_of
+loop-k-preserved c =
+    let l = c in
+    let a = l.args in
+    let same : get_or a.name.now l.loop-k.k 0 ≡ get_or a.other.now l.loop-k.k 0 = omega arith in
+    sym (compare_equal _ Plain _ l.loop-k.k l.loop-k.k (omega arith) (omega arith) same) ∙ l.loop-k.invariant
+
+pub returns-then-k-other : goal.returns-then-k-other
+unfolding spelled
+returns-then-k-other c =
+    let l = c in
+    sym (compare_short _ Plain _ l.loop-k.k l.loop-k.k c.if-k-other.true (omega arith)) ∙ l.loop-k.invariant
+
+pub returns-then-k-name : goal.returns-then-k-name
+unfolding spelled
+returns-then-k-name c =
+    let l = c in
+    sym (compare_longer _ Plain _ l.loop-k.k l.loop-k.k c.if-k-other.false c.if-k-name.true) ∙ l.loop-k.invariant
+
+pub returns-else-k-name : goal.returns-else-k-name
+unfolding spelled
+returns-else-k-name c =
+    let l = c in
+    sym (compare_over _ Plain _ l.loop-k.k l.loop-k.k c.if-k-other.false c.if-k-name.false) ∙ l.loop-k.invariant

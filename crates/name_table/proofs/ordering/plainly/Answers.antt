@@ -1,0 +1,22 @@
+-- `name_table::ordering::plainly` meets its contract. The loop's invariant: up to here the text spells itself.
+-- Assumes nothing.
+use Prim.Native.Nat.{◌-◌}
+use mathlib.Core.Path.{refl}
+use native.Mathlib.Omega.{arith}
+use lib.ListN.{length}
+use Rattle.name_table.proofs.SpellingLaws.{PlainTo, plain_on, plain_ends}
+use Rattle.name_table.proofs.ordering.plainly.Goals as goal
+
+pub loop-i-init : goal.loop-i-init
+loop-i-init c = refl
+
+pub returns-then-step-gt1 : goal.returns-then-step-gt1
+returns-then-step-gt1 c = refl
+
+pub loop-i-preserved : goal.loop-i-preserved
+loop-i-preserved c =
+    let t = c in
+    plain_on _ _ t.loop-i.i t.loop-i-test.true (omega (arith, c.step.ensures)) t.loop-i.invariant
+
+pub returns : goal.returns
+returns c = plain_ends _ _ _ c.loop-i-test.false c.loop-i.invariant

@@ -1,0 +1,18 @@
+-- `name_table::searching::search` meets its contract. The loop's invariant: halving from lo up to hi finds what it finds in the whole table.
+-- Assumes nothing.
+use Prim.Native.Nat.{◌-◌, ◌≤◌}
+use mathlib.Core.Path.{◌≡◌, sym, ap, ◌∙◌}
+use native.Mathlib.Omega.{arith}
+use lib.ListN.{length}
+use Rattle.name_table.specs.Order.{order_of}
+use Rattle.name_table.specs.Spelling.{spelled}
+use Rattle.name_table.specs.Table.{name_at}
+use Rattle.name_table.specs.Search.{middle, halved, searched}
+use Rattle.name_table.proofs.SearchLaws.{search_starts, search_up, search_here, search_down, search_over}
+use Rattle.name_table.proofs.searching.search.Given as goal
+
+abbrev pub invariant-loop-lo : goal.invariant-loop-lo
+invariant-loop-lo l = (l.hi ≤ length l.ends) × (halved l.bytes l.ends (spelled l.how l.text) (l.hi - l.lo) l.lo l.hi ≡ searched l.bytes l.ends (spelled l.how l.text))
+
+abbrev pub decreases-loop-lo : goal.decreases-loop-lo
+decreases-loop-lo l = l.hi - l.lo
