@@ -2,13 +2,10 @@
 -- Assumes nothing.
 use Prim.Native.Nat.{ℕ}
 use mathlib.Core.Path.{◌≡◌, refl, ap, sym, ◌∙◌}
-use mathlib.Core.Logic.{inl, inr}
 use mathlib.Core.List.{List, [], ◌∷◌}
 use mathlib.Core.Option.{none, some}
 use native.Mathlib.Omega.{arith}
 use lib.ListN.{length, take}
-use types.Run.{OneOf}
-use denote.Enum.Declared.{tag_of}
 use Rattle.basics.proofs.Laws.{differ}
 use Rattle.records.specs.Answer.{longest}
 use Rattle.records.proofs.Answers.{state_good}
@@ -28,7 +25,6 @@ use Rattle.comment_parser.specs.declared.Next.{Next}
 use Rattle.comment_parser.specs.declared.Next.TheVariants.{Event, End, Refused}
 use Rattle.comment_parser.specs.declared.NextNoted.{NextNoted}
 use Rattle.comment_parser.specs.declared.ParserState.{ParserState}
-use Rattle.comment_parser.specs.contracts.Next.{the_type}
 use Rattle.comment_parser.proofs.Turns.{GoesOn}
 use Rattle.comment_parser.proofs.Events.{next_is, seen_on, stays_accepted}
 use Rattle.comment_parser.proofs.Reached.{Reached, Lies, fresh_reached, seen_lies}
@@ -51,10 +47,9 @@ pub record Along (rd : Reading) (buf : List ℕ) (st : ParserState) (note : Note
 pub along_starts : (name : Name) (buf : List ℕ) (start end : ℕ) (note : Note) → note.to ≡ 0 → Along (named name) buf (fresh name start end) note
 along_starts name buf start end note z = record { reads = refl; reached = fresh_reached name start end; noted = holds_nothing (take end buf) note z }
 
--- an answer that is no event, told by its tag, as where a `let .. else` takes the else
-no_event : (n : Next) → OneOf (1 ∷ 2 ∷ []) (tag_of the_type n) → paired (step_answer n).event (step_answer n).state ≡ none
-no_event (Event t i) (inl e) = absurd (omega (arith, e))
-no_event (Event t i) (inr e) = absurd (omega (arith, e))
+-- an answer that is no event, as where a `let .. else` takes the else
+no_event : (n : Next) → ((t : ParserState) (i : CommentItem) → n ≡ Event t i → ⊥) → paired (step_answer n).event (step_answer n).state ≡ none
+no_event (Event t i) h = absurd (h t i refl)
 no_event (End t) h = refl
 no_event (Refused t r) h = refl
 
@@ -64,7 +59,7 @@ module _ {rd : Reading} {buf : List ℕ} {st : ParserState} {note : Note} {r : N
   unfolding seen
   along_seen n e = rw (← a.reads, ← (says.reads a.noted).is, e)
 
-  pub along_end : OneOf (1 ∷ 2 ∷ []) (tag_of the_type r.next) → seen rd buf st ≡ none
+  pub along_end : ((t : ParserState) (i : CommentItem) → r.next ≡ Event t i → ⊥) → seen rd buf st ≡ none
   along_end k = along_seen r.next refl ∙ no_event r.next k
 
   -- an event: it is seen, less is to come, its numbers fit a word, it lies in the buffer, and the way goes on from the state after it

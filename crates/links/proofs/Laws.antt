@@ -6,8 +6,6 @@ use mathlib.Core.List.{List, [], ◌∷◌}
 use mathlib.Core.Option.{none}
 use native.Mathlib.Omega.{arith}
 use lib.ListN.{length}
-use types.Run.{OneOf, miss}
-use denote.Enum.Declared.{tag_of}
 use Rattle.byte_rules.specs.Reading.{Reading, named}
 use Rattle.byte_rules.specs.declared.reading.Reading.{Reading as Name}
 use Rattle.records.proofs.Laws.{Wide}
@@ -25,25 +23,22 @@ use Rattle.comment_parser.specs.Events.{events_from}
 use Rattle.comment_parser.specs.declared.CommentItem.{CommentItem}
 use Rattle.comment_parser.specs.declared.CommentItem.TheVariants.{Text, LineBreak, StartMathMode, EndMathMode, MathToken, Label, Url, StartHtml, EndHtml, StartSubscript, EndSubscript, StartItalic, EndItalic, BibTag}
 use Rattle.comment_parser.specs.declared.ParserState.{ParserState}
-use Rattle.comment_parser.specs.contracts.CommentItem.{the_type}
 use Rattle.comment_parser.proofs.Events.{events_on, events_end, events_start}
 use Rattle.comment_parser.proofs.Giving.{Giving}
+use Rattle.basics.specs.declared.Span.{Span}
 use Rattle.links.specs.Links.{link_width, name_of, link_to, label_links, item_links, links_from, links_of}
 
 -- ---- what an event gives
 
--- the events that give none, told by their tags: all but Label
-abbrev pub silent : List ℕ
-silent = 0 ∷ 1 ∷ 2 ∷ 3 ∷ 4 ∷ 6 ∷ 7 ∷ 8 ∷ 9 ∷ 10 ∷ 11 ∷ 12 ∷ 13 ∷ []
-
 module _ (buf bytes ends : List ℕ) where
-  pub item_silent : (i : CommentItem) → OneOf silent (tag_of the_type i) → item_links buf bytes ends i ≡ []
+  -- all events but Label give none
+  pub item_silent : (i : CommentItem) → ((p : ℕ) (s : Span) → i ≡ Label p s → ⊥) → item_links buf bytes ends i ≡ []
   item_silent (Text s) h = refl
   item_silent (LineBreak i) h = refl
   item_silent (StartMathMode i) h = refl
   item_silent (EndMathMode i) h = refl
   item_silent (MathToken s) h = refl
-  item_silent (Label i s) h = absurd (miss silent 5 tt h)
+  item_silent (Label i s) h = absurd (h i s refl)
   item_silent (Url i s) h = refl
   item_silent (StartHtml i) h = refl
   item_silent (EndHtml i) h = refl

@@ -7,12 +7,11 @@ use mathlib.Core.List.{List, [], ◌∷◌, ◌++◌, append-nil}
 use mathlib.Core.Option.{none, some}
 use native.Mathlib.Omega.{arith}
 use lib.ListN.{length}
-use types.Run.{OneOf, miss}
-use denote.Enum.Declared.{tag_of}
 use Rattle.byte_rules.specs.Reading.{Reading, named}
 use Rattle.byte_rules.specs.declared.reading.Reading.{Reading as Name}
 use Rattle.scans.specs.declared.Note.{Note}
 use Rattle.basics.specs.declared.Place.{Place}
+use Rattle.basics.specs.declared.Span.{Span}
 use Rattle.basics.specs.declared.Place.TheVariants.{At, Nowhere}
 use Rattle.records.specs.Answer.{longest}
 use Rattle.records.specs.Records.{laid}
@@ -27,7 +26,6 @@ use Rattle.comment_parser.specs.declared.CommentItem.TheVariants.{Text, LineBrea
 use Rattle.comment_parser.specs.declared.Next.TheVariants.{Event}
 use Rattle.comment_parser.specs.declared.NextNoted.{NextNoted}
 use Rattle.comment_parser.specs.declared.ParserState.{ParserState}
-use Rattle.comment_parser.specs.contracts.CommentItem.{the_type}
 use Rattle.comment_parser.proofs.Events.{events_on, events_end, events_start}
 use Rattle.comment_parser.proofs.InOrder.{given, seen_in_order, given_le}
 use Rattle.comment_parser.proofs.Along.{Along, along_starts, along_event, along_less, along_accepted, along_within, along_on}
@@ -39,40 +37,51 @@ use Rattle.verify_markup.specs.declared.Modes.{Modes}
 use Rattle.verify_markup.proofs.DiagLaws.{Few, few_append, few_none, few_when, Did, did_count}
 use Rattle.verify_markup.proofs.ItemLaws.{few_item}
 
--- ---- the events that give nothing, and those that keep the modes, told by their tags
+-- ---- the events that give nothing, and those that keep the modes
 
-abbrev silent : List ℕ
-silent = 1 ∷ 7 ∷ 8 ∷ 9 ∷ 10 ∷ 11 ∷ 12 ∷ []
+-- none of the events that may give a diagnostic
+pub record Silent (item : CommentItem) : Type 0 where
+  pub no_text : (s : Span) → item ≡ Text s → ⊥
+  pub no_start_math : (i : ℕ) → item ≡ StartMathMode i → ⊥
+  pub no_end_math : (i : ℕ) → item ≡ EndMathMode i → ⊥
+  pub no_token : (s : Span) → item ≡ MathToken s → ⊥
+  pub no_label : (i : ℕ) (s : Span) → item ≡ Label i s → ⊥
+  pub no_url : (i : ℕ) (s : Span) → item ≡ Url i s → ⊥
+  pub no_tag : (s : Span) → item ≡ BibTag s → ⊥
 
-abbrev keeping : List ℕ
-keeping = 0 ∷ 1 ∷ 4 ∷ 5 ∷ 6 ∷ 9 ∷ 10 ∷ 11 ∷ 12 ∷ 13 ∷ []
+-- none of the events that open or close a mode
+pub record Keeping (item : CommentItem) : Type 0 where
+  pub no_start_math : (i : ℕ) → item ≡ StartMathMode i → ⊥
+  pub no_end_math : (i : ℕ) → item ≡ EndMathMode i → ⊥
+  pub no_start_html : (i : ℕ) → item ≡ StartHtml i → ⊥
+  pub no_end_html : (i : ℕ) → item ≡ EndHtml i → ⊥
 
-pub item_silent : (buf : List ℕ) (n : Names) (html : Bool) (i : CommentItem) → OneOf silent (tag_of the_type i) → item_diags buf n html i ≡ []
-item_silent buf n html (Text s) h = absurd (miss silent 0 tt h)
+pub item_silent : (buf : List ℕ) (n : Names) (html : Bool) (i : CommentItem) → Silent i → item_diags buf n html i ≡ []
+item_silent buf n html (Text s) h = absurd (h.no_text s refl)
 item_silent buf n html (LineBreak i) h = refl
-item_silent buf n html (StartMathMode i) h = absurd (miss silent 2 tt h)
-item_silent buf n html (EndMathMode i) h = absurd (miss silent 3 tt h)
-item_silent buf n html (MathToken s) h = absurd (miss silent 4 tt h)
-item_silent buf n html (Label i s) h = absurd (miss silent 5 tt h)
-item_silent buf n html (Url i s) h = absurd (miss silent 6 tt h)
+item_silent buf n html (StartMathMode i) h = absurd (h.no_start_math i refl)
+item_silent buf n html (EndMathMode i) h = absurd (h.no_end_math i refl)
+item_silent buf n html (MathToken s) h = absurd (h.no_token s refl)
+item_silent buf n html (Label i s) h = absurd (h.no_label i s refl)
+item_silent buf n html (Url i s) h = absurd (h.no_url i s refl)
 item_silent buf n html (StartHtml i) h = refl
 item_silent buf n html (EndHtml i) h = refl
 item_silent buf n html (StartSubscript i) h = refl
 item_silent buf n html (EndSubscript i) h = refl
 item_silent buf n html (StartItalic i) h = refl
 item_silent buf n html (EndItalic i) h = refl
-item_silent buf n html (BibTag s) h = absurd (miss silent 13 tt h)
+item_silent buf n html (BibTag s) h = absurd (h.no_tag s refl)
 
-pub modes_kept : (m : Modes) (i : CommentItem) → OneOf keeping (tag_of the_type i) → m ≡ modes_after m i
+pub modes_kept : (m : Modes) (i : CommentItem) → Keeping i → m ≡ modes_after m i
 modes_kept m (Text s) h = refl
 modes_kept m (LineBreak i) h = refl
-modes_kept m (StartMathMode i) h = absurd (miss keeping 2 tt h)
-modes_kept m (EndMathMode i) h = absurd (miss keeping 3 tt h)
+modes_kept m (StartMathMode i) h = absurd (h.no_start_math i refl)
+modes_kept m (EndMathMode i) h = absurd (h.no_end_math i refl)
 modes_kept m (MathToken s) h = refl
 modes_kept m (Label i s) h = refl
 modes_kept m (Url i s) h = refl
-modes_kept m (StartHtml i) h = absurd (miss keeping 7 tt h)
-modes_kept m (EndHtml i) h = absurd (miss keeping 8 tt h)
+modes_kept m (StartHtml i) h = absurd (h.no_start_html i refl)
+modes_kept m (EndHtml i) h = absurd (h.no_end_html i refl)
 modes_kept m (StartSubscript i) h = refl
 modes_kept m (EndSubscript i) h = refl
 modes_kept m (StartItalic i) h = refl

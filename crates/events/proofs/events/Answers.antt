@@ -89,7 +89,7 @@ module _ (c : After-lay_event-wrote) where
 pub overflow_add-at : goal.overflow_add-at
 overflow_add-at c =
     let l = head (goal.at.overflow_add-at c).After-lay_event-wrote in
-    omega (arith, (turned (goal.at.overflow_add-at c).After-lay_event-wrote).0, l.loop-after.invariant.laying.long, l.good)
+    omega (arith, (turned (goal.at.overflow_add-at c).After-lay_event-wrote).0, l.loop-after.invariant.laying.long, l.well_formed)
 
 pub overflow_add-n : goal.overflow_add-n
 overflow_add-n c = omega (arith, (turned (goal.at.overflow_add-n c).After-lay_event-wrote).1.few)
@@ -110,14 +110,14 @@ none_to_come : (c : In_default-next)
 none_to_come c =
     let call = (goal.at.In_default-next c).After-next_within-noted in
     let inv = call.loop-after.invariant in
-    rw (is_asked (goal.at.In_default-next c).At-loop-after) at (going_ends (records_given _ _) inv (along_end inv.along (says call) c.in_default-next.keys2))
+    rw (is_asked (goal.at.In_default-next c).At-loop-after) at (going_ends (records_given _ _) inv (along_end inv.along (says call) c.in_default-next.not-Event))
 
 -- the lines are filled in
 module _ (c : After-fill_lines) where
   abbrev last : At-loop-after
   last = (goal.at.After-fill_lines c).At-loop-after
 
-  accepted : none ≡ refusal last
+  accepted : none ≡ refusal (goal.at.At-loop-after last).Start
   accepted = good (goal.at.At-loop-after last).In_default
 
   counted : let a = last.args in last.loop-after.n ≡ length (event_records (named a.reading) a.buf.now a.start a.end)
