@@ -73,6 +73,7 @@ module _ (buf bytes ends : List ℕ) (a e k : ℕ) where
 
   to_links : HasEntry → (tilde : ℕ) (is : List CommentItem) → In (Label tilde (span a e)) is → In (a ∷ e ∷ k ∷ []) (links_from buf bytes ends is)
   unfolding links_from label_links
+  to_links q tilde [] x = elim x [ ]
   to_links q tilde (i ∷ is) (Memᴰ.head h) = Memᴰ.append_left {s = item_links buf bytes ends i} (links_from buf bytes ends is) (rw (← h, q) (Memᴰ.head refl))
   to_links q tilde (i ∷ is) (Memᴰ.tail m) = Memᴰ.append_right (item_links buf bytes ends i) (to_links q tilde is m)
 

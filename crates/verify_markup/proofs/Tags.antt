@@ -94,6 +94,7 @@ module _ (buf : List ℕ) where
       go false h = ap (λ (rest : List (List ℕ)). v ∷ rest) h
 
   others_lined : (ws : List (List ℕ)) → Others ws → Others (lined buf ws)
+  others_lined [] p v m k = elim m [ ]
   others_lined (w ∷ ws) p v (Memᴰ.head same) k = p w (Memᴰ.head refl) (sym (kind_lined w) ∙ ap kind_of (sym same) ∙ k)
   others_lined (w ∷ ws) p v (Memᴰ.tail m) k = others_lined ws (λ u n. p u (Memᴰ.tail n)) v m k
 
@@ -234,6 +235,7 @@ module _ (buf : List ℕ) where
 
     to_diags : (end a e : ℕ) → no_tag n.tags (part buf a e) ≡ true → (m : Modes) (is : List CommentItem) → In (BibTag (span a e)) is → In (undefined_bib_tag a e) (diags_from buf end n m is)
     unfolding diags_from tag_diags
+    to_diags end a e missing m [] x = elim x [ ]
     to_diags end a e missing m (i ∷ is) (Memᴰ.head h) =
         Memᴰ.append_left {s = item_diags buf n (is_open m.html) i} (diags_from buf end n (modes_after m i) is)
         (rw (← h) (Memᴰ.append_right (bib_escapes buf a e (e - a) a) (rw missing (Memᴰ.head refl))))

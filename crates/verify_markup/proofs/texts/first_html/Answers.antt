@@ -1,0 +1,48 @@
+-- `texts::first_html` meets its contract. The loop's invariant: the first mark from i on is the first of all.
+-- Assumes nothing.
+use Prim.Native.Nat.{◌+◌, ◌-◌, ◌≤◌}
+use mathlib.Core.Path.{◌≡◌, sym, ◌∙◌}
+use native.Mathlib.Nat.{le_refl}
+use native.Mathlib.Omega.{arith}
+use lib.ListN.{length}
+use Rattle.scans.specs.Plain.{plain_step}
+use Rattle.scans.proofs.Laws.{scan_le, scan_ge}
+use Rattle.verify_markup.specs.Texts.{html_from}
+use Rattle.verify_markup.proofs.TextLaws.{len_within, html_here, html_on, html_over}
+use Rattle.verify_markup.proofs.PlainTexts.{html_skip}
+use Rattle.verify_markup.proofs.texts.first_html.Goals as goal
+
+pub loop-i-init : goal.loop-i-init
+loop-i-init c =
+    let a = c.args in
+    let e = c.plain_end-i.ensures in
+    (omega (arith, e, scan_le (plain_step a.text.now) (length a.text.now) a.from), sym (html_skip a.text.now a.from c.plain_end-i.result e c.requires))
+
+pub overflow_add-result : goal.overflow_add-result
+overflow_add-result c =
+    let t = c in
+    omega (arith, c.html_len-len.ensures, len_within t.args.text.now t.loop-i.i t.loop-i.invariant.0)
+
+pub returns-then-len-ne0 : goal.returns-then-len-ne0
+returns-then-len-ne0 c = let t = c in html_here _ _ t.loop-i-test.true _ c.html_len-len.ensures c.if-len-ne0.true ∙ t.loop-i.invariant.1
+
+pub loop-i-smaller : goal.loop-i-smaller
+loop-i-smaller c =
+    let l = c in
+    let s = l.args.text.now in
+    let h : l.loop-i.i + 1 ≤ length s = omega (arith, c.loop-i-test.true) in
+    omega (arith, c.plain_end-i-in-loop-i.ensures, scan_ge (plain_step s) (length s) (l.loop-i.i + 1) (l.loop-i.i + 1) (le_refl (l.loop-i.i + 1)) h)
+
+pub loop-i-preserved : goal.loop-i-preserved
+loop-i-preserved c =
+    let t = c in
+    let l = c in
+    let s = l.args.text.now in
+    let e = c.plain_end-i-in-loop-i.ensures in
+    let on = html_on _ _ t.loop-i-test.true (sym c.html_len-len.ensures ∙ c.if-len-ne0.false) in (
+      omega (arith, e, scan_le (plain_step s) (length s) (l.loop-i.i + 1)),
+      sym (on ∙ html_skip s (l.loop-i.i + 1) c.plain_end-i-in-loop-i.result e (omega (arith, t.loop-i-test.true))) ∙ l.loop-i.invariant.1,
+    )
+
+pub returns : goal.returns
+returns c = let l = c in html_over _ _ c.loop-i-test.false ∙ l.loop-i.invariant.1
