@@ -84,6 +84,8 @@ until_math spec.ends_in_math = UntilEndMath.until_the_end
 -- behind a StartSubscript
 after_start : {p : ℕ} {es : List CommentItem} → Told (behind_start p) es → OneTextAndEnd p es
 after_start (event subscript_text (event end_subscript t)) = spec.one_text_and_end
+after_start {p = p} (end x3) = elim x3 [ ]
+after_start {p = p} (event (subscript_text {q = q}) (end x15)) = elim x15 [ ]
 
 -- the events before a place of the grammar
 pub record EndsWithStart (p : ℕ) (bs : List CommentItem) : Type 0 where
@@ -132,24 +134,38 @@ around_from (event {c = d} {es = es} g t) bs k (x ∷ xs) c ys e =
 -- read off
 starts_subscript : {bs ys : List CommentItem} {p : ℕ} → Around bs (StartSubscript p) ys → OneTextAndEnd p ys
 starts_subscript (around k start_subscript t) = after_start t
+starts_subscript {bs = bs} {ys = ys} {p = p} (around k (alone x5) t) = elim x5 [ ]
+starts_subscript {bs = bs} {ys = ys} {p = p} (around k (inside x6) t) = elim x6 [ ]
 
 ends_subscript : {bs ys : List CommentItem} {q : ℕ} → Around bs (EndSubscript q) ys → StartAndOneText q bs
 ends_subscript (around k end_subscript t) = k
+ends_subscript {bs = bs} {ys = ys} {q = q} (around k (alone x5) t) = elim x5 [ ]
+ends_subscript {bs = bs} {ys = ys} {q = q} (around k (inside x6) t) = elim x6 [ ]
 
 starts_italic : {bs ys : List CommentItem} {p : ℕ} → Around bs (StartItalic p) ys → UntilEndItalic ys
 starts_italic (around k start_italic t) = until_italic (formed t)
+starts_italic {bs = bs} {ys = ys} {p = p} (around k (alone x5) t) = elim x5 [ ]
+starts_italic {bs = bs} {ys = ys} {p = p} (around k (inside x6) t) = elim x6 [ ]
 
 ends_italic : {bs ys : List CommentItem} {q : ℕ} → Around bs (EndItalic q) ys → SinceStartItalic bs
 ends_italic (around k end_italic t) = k
+ends_italic {bs = bs} {ys = ys} {q = q} (around k (alone x5) t) = elim x5 [ ]
+ends_italic {bs = bs} {ys = ys} {q = q} (around k (inside x6) t) = elim x6 [ ]
 
 starts_math : {bs ys : List CommentItem} {p : ℕ} → Around bs (StartMathMode p) ys → UntilEndMath ys
 starts_math (around k start_math t) = until_math (formed t)
+starts_math {bs = bs} {ys = ys} {p = p} (around k (alone x5) t) = elim x5 [ ]
+starts_math {bs = bs} {ys = ys} {p = p} (around k (inside x6) t) = elim x6 [ ]
 
 in_tokens : {bs ys : List CommentItem} {x : Span} → Around bs (MathToken x) ys → SinceStartMath bs
 in_tokens (around k token t) = k
+in_tokens {bs = bs} {ys = ys} (around k (alone x6) t) = elim x6 [ ]
+in_tokens {bs = bs} {ys = ys} (around k (inside x7) t) = elim x7 [ ]
 
 ends_math : {bs ys : List CommentItem} {q : ℕ} → Around bs (EndMathMode q) ys → SinceStartMath bs
 ends_math (around k end_math t) = k
+ends_math {bs = bs} {ys = ys} {q = q} (around k (alone x5) t) = elim x5 [ ]
+ends_math {bs = bs} {ys = ys} {q = q} (around k (inside x6) t) = elim x6 [ ]
 
 pub marks_pair : {es : List CommentItem} → Told outside es → MarksPair es
 marks_pair {es} t =

@@ -17,4 +17,6 @@ returns-in-Label c = let l = c in record { wrote = rw l.in-Label.is l.lay_label.
 
 pub returns-in_default : goal.returns-in_default
 unfolding laid used
-returns-in_default c = let a = c.args in record { wrote = rw (item_silent a.buf.now a.lb.now a.le.now a.item c.in-Label.in-Label-own.keys2) refl; left = rw (item_silent a.buf.now a.lb.now a.le.now a.item c.in-Label.in-Label-own.keys2) refl }
+returns-in_default c = 
+    let a = c.args in
+    let none = item_silent a.buf.now a.lb.now a.le.now a.item c.in_default.not-Label in record { wrote = rw none; left = rw none }

@@ -21,7 +21,7 @@ use Rattle.comment_parser.proofs.Giving.{Going, going_starts, going_on, going_en
 use Rattle.links.specs.Links.{link_width, links_of, links_refusal}
 use Rattle.links.proofs.Laws.{links_on, links_given, links_start}
 use Rattle.links.proofs.links.Goals as goal
-use Rattle.links.proofs.links.Goals.{After-check_table, After-lay_item-wrote, After-next_within-noted, At-loop-after, In-Event, In_default, In_default-check_table, In_default-next, Start}
+use Rattle.links.proofs.links.Goals.{After-check_table, After-lay_item-wrote, After-next_within-noted, At-loop-after, In-Event, In_default, In_default-check_table, In_default-next}
 
 pub returns-in-Refused : goal.returns-in-Refused
 unfolding links_refusal
@@ -48,45 +48,42 @@ module _ (c : In_default-check_table) where
   abbrev accepted : In_default
   accepted = (goal.at.In_default-check_table c).In_default
 
-  abbrev start : Start
-  start = entry accepted
-
-  table_good : none ≡ table_refusal 1 start.args.lb.now start.args.le.now
+  table_good : none ≡ table_refusal 1 accepted.args.lb.now accepted.args.le.now
   table_good = ap checked_answer (sym c.in_default-check_table.is) ∙ c.check_table.ensures
 
-  good : let a = start.args in none ≡ links_refusal a.buf.now a.lb.now a.le.now a.start a.end
+  good : let a = accepted.args in none ≡ links_refusal a.buf.now a.lb.now a.le.now a.start a.end
   unfolding links_refusal
   good = table_good ∙ the_other _ (span_good accepted)
 
-  fits : (length start.args.buf.now ≤ longest) × (start.args.start ≤ start.args.end) × (start.args.end ≤ length start.args.buf.now)
+  fits : (length accepted.args.buf.now ≤ longest) × (accepted.args.start ≤ accepted.args.end) × (accepted.args.end ≤ length accepted.args.buf.now)
   fits = span_accepted _ _ _ (sym (span_good accepted))
 
 pub loop-after-init : goal.loop-after-init
 loop-after-init c =
     let t = (goal.at.loop-after-init c).In_default-check_table in
-    let a = (start t).args in
+    let a = t.args in
     rw (c.new-st.ensures, ← links_start a.reading a.buf.now a.lb.now a.le.now a.start a.end)
     (going_starts a.reading link_width a.buf.now (links_on (named a.reading) a.buf.now a.lb.now a.le.now) a.start a.end a.out.now c.nothing-note.result c.nothing-note.ensures.1 (record { short = (fits t).0; inside = (fits t).1; fits = (fits t).2 }))
 
 -- the loop's head, and the place behind the checks
 abbrev checked : At-loop-after → In_default-check_table
-checked l = l.before.before.before
+checked l = (goal.at.At-loop-after l).In_default-check_table
 
 -- what the answer to the state at the loop's head tells, since that is accepted
-says : (c : After-next_within-noted) → let l = (goal.at.After-next_within-noted c).At-loop-after in NextBy (start (checked l)).args.buf.now l.loop-after.st l.loop-after.note c.next_within-noted.result
+says : (c : After-next_within-noted) → let l = (goal.at.After-next_within-noted c).At-loop-after in NextBy (checked l).args.buf.now l.loop-after.st l.loop-after.note c.next_within-noted.result
 says c = within_says c.loop-after.invariant.accepted c.next_within-noted.ensures
 
 -- the reading that the first state names is the one that was asked for
 abbrev rd : At-loop-after → Reading
 rd l = named l.new-st.result.reading
 
-is_asked : (l : At-loop-after) → rd l ≡ named (start (checked l)).args.reading
+is_asked : (l : At-loop-after) → rd l ≡ named (checked l).args.reading
 is_asked l = ap (λ (st : ParserState). named st.reading) l.new-st.ensures
 
 pub offset_bounds-out-at : goal.offset_bounds-out-at
 offset_bounds-out-at c =
     let l = (goal.at.offset_bounds-out-at c).At-loop-after in
-    omega (arith, l.loop-after.invariant.laying.inside, l.loop-after.invariant.laying.long, (start (checked l)).good)
+    omega (arith, l.loop-after.invariant.laying.inside, l.loop-after.invariant.laying.long, l.well_formed)
 
 pub lay_item-wrote-requires : goal.lay_item-wrote-requires
 lay_item-wrote-requires c =
@@ -108,7 +105,7 @@ module _ (c : After-lay_item-wrote) where
 
   abbrev Turned : Type 0
   Turned =
-      let a = (start (checked head)).args in
+      let a = (checked head).args in
       let l = head.loop-after in
       let w = c.lay_item-wrote.result in
       (l.at + w.words ≤ length l.out)
@@ -120,7 +117,7 @@ module _ (c : After-lay_item-wrote) where
 pub overflow_add-at : goal.overflow_add-at
 overflow_add-at c =
     let w = (goal.at.overflow_add-at c).After-lay_item-wrote in
-    omega (arith, (turned w).0, (head w).loop-after.invariant.laying.long, (start (checked (head w))).good)
+    omega (arith, (turned w).0, (head w).loop-after.invariant.laying.long, (head w).well_formed)
 
 pub overflow_add-n : goal.overflow_add-n
 overflow_add-n c = omega (arith, (turned (goal.at.overflow_add-n c).After-lay_item-wrote).1.few)
@@ -136,12 +133,12 @@ loop-after-preserved c = (turned (goal.at.loop-after-preserved c).After-lay_item
 -- the end: no record is to come
 none_to_come : (c : In_default-next)
     → let l = (goal.at.In_default-next c).At-loop-after in
-    let a = (start (checked l)).args in
+    let a = (checked l).args in
     Laying link_width (links_of (named a.reading) a.buf.now a.lb.now a.le.now a.start a.end) [] a.out.now l.loop-after.out l.loop-after.at l.loop-after.n
 none_to_come c =
     let call = (goal.at.In_default-next c).After-next_within-noted in
     let inv = call.loop-after.invariant in
-    rw (is_asked (goal.at.In_default-next c).At-loop-after) at (going_ends (links_given _ _ _ _) inv (along_end inv.along (says call) c.in-Event.in-Event-own.keys2))
+    rw (is_asked (goal.at.In_default-next c).At-loop-after) at (going_ends (links_given _ _ _ _) inv (along_end inv.along (says call) c.in_default-next.not-Event))
 
 pub returns-then-n-out : goal.returns-then-n-out
 returns-then-n-out c = let both = given_done (none_to_come (goal.at.returns-then-n-out c).In_default-next) _ (good (checked (goal.at.returns-then-n-out c).At-loop-after)) (omega arith) in record { answer = both.0; left = both.1 }
