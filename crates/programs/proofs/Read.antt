@@ -8,4 +8,4 @@ use Rattle.programs.specs.declared.Input.TheVariants.{Bytes, Failed}
 
 pub at_most : (r : Input) (a b : ℕ) → AtMost r a → a ≤ b → AtMost r b
 at_most (Bytes n) a b h k = omega arith
-at_most Failed a b h k = tt
+at_most (Failed e) a b h k = tt

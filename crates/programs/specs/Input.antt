@@ -7,7 +7,7 @@ use Rattle.programs.specs.declared.Source.{Source}
 -- so many bytes at most
 abbrev pub AtMost : Input → ℕ → Type 0
 AtMost (Bytes n) most = n ≤ most
-AtMost Failed most = Unit
+AtMost (Failed error) most = Unit
 
 -- what is left to take stands in a buffer of so many bytes
 pub record Within (s : Source) (len : ℕ) : Type 0 where

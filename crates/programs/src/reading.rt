@@ -4,53 +4,60 @@ ghost use Rattle.programs.specs.Input.{AtMost, Within};
 
 use crate::{Input, Source, Taken};
 use basics::least;
-use libc::STDIN_FILENO;
+use std::io::{Error, Read, Stdin};
+
+// The system's number of an error, 0 where it has none.
+pub(crate) fn error_number(error: &Error) -> i32 {
+    error.raw_os_error().unwrap_or(0)
+}
 
 // Reads once: so many bytes at the front of `room`, none at the input's end.
-fn read_once(room: &mut [u8]) -> Input
+fn read_once(stdin: Stdin, room: &mut [u8]) -> Input
     ensures { AtMost result (length room.new) }
 {
-    let got = libc::read(STDIN_FILENO, room);
-    if got < 0 {
-        return Input::Failed;
+    let mut stdin = stdin;
+    match stdin.read(room) {
+        Ok(n) => Input::Bytes(n),
+        Err(error) => Input::Failed(error_number(&error)),
     }
-    Input::Bytes(io::count(got, room))
 }
 
 // One byte more, if it comes. It is not kept.
-fn read_one() -> Input
+fn read_one(stdin: Stdin) -> Input
     ensures { AtMost result 1 }
 {
     let mut one = [0u8; 1];
-    read_once(&mut one)
+    read_once(stdin, &mut one)
 }
 
 // Reads the input to its end and counts it. All of it stands at the front of `room` then; or the room is full, and the count is one
 // more than its length: that much of the input was read, and more may come.
-pub fn read_input(room: &mut [u8]) -> Input
+pub fn read_input(stdin: Stdin, room: &mut [u8]) -> Input
     ensures { AtMost result (length room.new + 1) }
 {
     let mut n: usize = 0;
     while n < room.len() {
-        let Input::Bytes(more) = read_once(&mut room[n..]) else {
-            return Input::Failed;
+        let more = match read_once(stdin, &mut room[n..]) {
+            Input::Bytes(more) => more,
+            Input::Failed(error) => return Input::Failed(error),
         };
         if more == 0 {
             return Input::Bytes(n);
         }
         n += more;
     }
-    let Input::Bytes(more) = read_one() else {
-        return Input::Failed;
-    };
-    Input::Bytes(n + more)
+    match read_one(stdin) {
+        Input::Bytes(more) => Input::Bytes(n + more),
+        Input::Failed(error) => Input::Failed(error),
+    }
 }
 
 impl Source {
-    pub fn new() -> Source
-        ensures { result ≡ record { at = 0; end = 0; failed = false } }
+    pub fn new(stdin: Stdin) -> Source
+        ensures { result ≡ record { stdin = stdin; at = 0; end = 0; failed = false } }
     {
         Source {
+            stdin,
             at: 0,
             end: 0,
             failed: false,
@@ -61,13 +68,15 @@ impl Source {
     fn refilled(self, buffer: &mut [u8]) -> Source
         ensures { Within result (length buffer.new) }
     {
-        match read_once(buffer) {
+        match read_once(self.stdin, buffer) {
             Input::Bytes(n) => Source {
+                stdin: self.stdin,
                 at: 0,
                 end: n,
                 failed: self.failed,
             },
-            Input::Failed => Source {
+            Input::Failed(_) => Source {
+                stdin: self.stdin,
                 at: 0,
                 end: 0,
                 failed: true,
@@ -96,7 +105,8 @@ impl Source {
         let at = self.at;
         let n = least(self.end - at, to.len());
         let end = at + n;
-        bytes::copy(&buffer[at..end], to)
+        to[..n].copy_from_slice(&buffer[at..end]);
+        n
     }
 
     // Takes bytes until `to` is full or the input ends.
@@ -109,6 +119,7 @@ impl Source {
             let there = left.ready(buffer);
             let n = there.take_some(buffer, &mut to[done..]);
             left = Source {
+                stdin: there.stdin,
                 at: there.at + n,
                 end: there.end,
                 failed: there.failed,

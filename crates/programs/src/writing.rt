@@ -1,30 +1,54 @@
 // Standard output, gathered in a buffer that the program lends, and written a buffer at a time.
-ghost use Rattle.std.specs.Prelude.{◌≡◌, true, [], ◌∷◌};
+ghost use Rattle.std.specs.Prelude.{◌≡◌, true, [], ◌∷◌, pos};
 ghost use Rattle.decimal.specs.Decimal.{decimal};
 ghost use Rattle.programs.specs.Output.{Gathers};
 
 use crate::Output;
+use crate::reading::error_number;
 use decimal::put_number;
-use libc::STDOUT_FILENO;
-
-// Writes the bytes, unless a write failed before.
-fn write(good: bool, bytes: &[u8]) -> bool
-    ensures { result ≡ true → good ≡ true }
-{
-    if good {
-        io::write_all(STDOUT_FILENO, bytes)
-    } else {
-        false
-    }
-}
+use std::io::Stdout;
 
 impl Output {
-    pub fn new() -> Output
-        ensures { result ≡ record { used = 0; good = true } }
+    pub fn new(stdout: Stdout) -> Output
+        ensures { result ≡ record { stdout = stdout; used = 0; good = true; error = pos 0 } }
     {
         Output {
+            stdout,
             used: 0,
             good: true,
+            error: 0,
+        }
+    }
+
+    // Writes the bytes, unless a write failed before. What waits is as it was.
+    fn write(self, bytes: &[u8]) -> Output
+        ensures good { result.good ≡ true → self.good ≡ true }
+        ensures used { result.used ≡ self.used }
+    {
+        if !self.good {
+            return self;
+        }
+        match self.stdout.write_all(bytes) {
+            Ok(()) => self,
+            Err(error) => Output {
+                stdout: self.stdout,
+                used: self.used,
+                good: false,
+                error: error_number(&error),
+            },
+        }
+    }
+
+    // The same, where so many bytes wait.
+    fn with_waiting(self, used: usize) -> Output
+        ensures good { result.good ≡ self.good }
+        ensures used { result.used ≡ used }
+    {
+        Output {
+            stdout: self.stdout,
+            used,
+            good: self.good,
+            error: self.error,
         }
     }
 
@@ -35,20 +59,14 @@ impl Output {
         let used = self.used;
         if used < buffer.len() {
             buffer[used] = b;
-            return Output {
-                used: used + 1,
-                good: self.good,
-            };
+            return self.with_waiting(used + 1);
         }
-        let good = write(self.good, buffer);
+        let written = self.write(buffer);
         if buffer.len() == 0 {
-            return Output {
-                used: 0,
-                good: write(good, &[b]),
-            };
+            return written.write(&[b]).with_waiting(0);
         }
         buffer[0] = b;
-        Output { used: 1, good }
+        written.with_waiting(1)
     }
 
     pub fn text(self, buffer: &mut [u8], text: &[u8]) -> Output
@@ -72,14 +90,21 @@ impl Output {
         self.text(buffer, &digits[..len])
     }
 
+    // Writes what waits. It is as before, but for what became of the write.
+    pub fn written(self, buffer: &[u8]) -> Output
+        ensures { result.good ≡ true → self.good ≡ true }
+    {
+        let used = self.used;
+        if used < buffer.len() {
+            return self.write(&buffer[..used]);
+        }
+        self.write(buffer)
+    }
+
     // Writes what waits. Says whether every write went well: it did not if an earlier one failed.
     pub fn flush(self, buffer: &[u8]) -> bool
         ensures { result ≡ true → self.good ≡ true }
     {
-        let used = self.used;
-        if used < buffer.len() {
-            return write(self.good, &buffer[..used]);
-        }
-        write(self.good, buffer)
+        self.written(buffer).good
     }
 }

@@ -1,0 +1,12 @@
+-- `read_input` meets its contract. The invariant: the room keeps its length, and n bytes of it are read.
+-- Assumes nothing.
+use Prim.Native.Nat.{◌-◌, ◌≤◌}
+use mathlib.Core.Path.{◌≡◌}
+use lib.ListN.{length}
+use Rattle.programs.proofs.reading.read_input.Given as goal
+
+abbrev pub invariant-loop-n : goal.invariant-loop-n
+invariant-loop-n l = (l.n ≤ length l.room) × (length l.room ≡ length l.initial.room)
+
+abbrev pub decreases-loop-n : goal.decreases-loop-n
+decreases-loop-n l = length l.room - l.n
