@@ -1,5 +1,7 @@
 // Reads a comment from standard input and lists its events on standard output, a line for each: kind, place, start, end and line, parted by tabs.
 // The argument `--strict` chooses the strict reading.
+#![tactic(auto)]
+
 mod line;
 
 ghost use Rattle.std.specs.Prelude.{◌≡◌, true, [], length};
@@ -9,12 +11,12 @@ ghost use Rattle.listing.specs.Listing.{event_lines, listing};
 
 use byte_rules::Reading;
 use comment_parser::{Next, ParserState};
-use libc::STDERR_FILENO;
 use line::put_line;
 use lines::lines_between;
-use programs::{Asked, Input, Output, asked_for, read_input};
+use programs::{Asked, Input, Output, argument, argument_count, asked_for, read_input};
 use records::{Checked, check_input};
 use scans::Note;
+use std::io::{Error, Stdout};
 
 // A line for each event, as it is read. Places never fall, so the number of the line is carried along. It stops where a write fails.
 fn put_events(reading: Reading, output: Output, buffer: &mut [u8], comment: &[u8]) -> Output
@@ -47,43 +49,60 @@ fn put_events(reading: Reading, output: Output, buffer: &mut [u8], comment: &[u8
 }
 
 // The listing of a comment in a reading.
-fn put_listing(reading: Reading, buffer: &mut [u8], comment: &[u8]) -> Output
+fn put_listing(stdout: Stdout, reading: Reading, buffer: &mut [u8], comment: &[u8]) -> Output
     ensures { result.good ≡ true → waiting result buffer.new ≡ gathered (length buffer.old) [] (listing (named reading) comment.now) }
 {
-    let head = Output::new().text(buffer, b"kind\tplace\tstart\tend\tline\n");
+    let head = Output::new(stdout).text(buffer, b"kind\tplace\tstart\tend\tline\n");
     put_events(reading, head, buffer, comment)
 }
 
+// Says on standard error what failed, and why, by the system's number of the error.
+fn fail<R: Eprint>(rt: &R, what: &str, number: i32) {
+    let error = Error::from_raw_os_error(number);
+    let _ = eprintln!(rt; "{what}: {error}");
+}
+
 // Writes what is left, and says on standard error if writing failed.
-fn finish(output: Output, buffer: &[u8]) {
-    if output.flush(buffer) {
+fn finish<R: Eprint>(rt: &R, output: Output, buffer: &[u8]) {
+    let last = output.written(buffer);
+    if last.good {
         return;
     }
-    os::fail(b"standard output");
+    fail(rt, "standard output", last.error);
 }
 
 // The room for the comment has as many bytes as a comment may have; a longer one is refused (8).
-fn list_input(reading: Reading) {
+fn list_input(rt: &HostRuntime, reading: Reading) {
+    let stdout = rt.stdout();
     let mut room = io::large_buffer();
     let mut buffer = io::buffer();
-    let Input::Bytes(n) = read_input(&mut room) else {
-        os::fail(b"standard input");
-        return;
+    let n = match read_input(rt.stdin(), &mut room) {
+        Input::Bytes(n) => n,
+        Input::Failed(error) => {
+            fail(rt, "standard input", error);
+            return;
+        }
     };
     match check_input(n) {
-        Checked::Good => finish(put_listing(reading, &mut buffer, &room[..n]), &buffer),
-        Checked::Refused(why) => finish(Output::new().refused(&mut buffer, why), &buffer),
+        Checked::Good => {
+            let listed = put_listing(stdout, reading, &mut buffer, &room[..n]);
+            finish(rt, listed, &buffer)
+        }
+        Checked::Refused(why) => {
+            let refused = Output::new(stdout).refused(&mut buffer, why);
+            finish(rt, refused, &buffer)
+        }
     }
 }
 
 // The room for the argument has one byte more than `--strict`, so that a longer one is told from it.
-fn main() {
+fn main(rt: HostRuntime) {
     let mut first = [0u8; 9];
-    let length = os::arg(1, &mut first);
-    match asked_for(os::arg_count(), &first[..length]) {
-        Asked::Read(reading) => list_input(reading),
+    let length = argument(&rt, 1, &mut first);
+    match asked_for(argument_count(&rt), &first[..length]) {
+        Asked::Read(reading) => list_input(&rt, reading),
         Asked::WrongUse => {
-            io::write_all(STDERR_FILENO, b"listing: takes no argument but --strict\n");
+            let _ = eprintln!(rt; "listing: takes no argument but --strict");
         }
     }
 }

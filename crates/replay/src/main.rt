@@ -2,6 +2,8 @@
 // It knows every op of that page. At what is no case and at an input that ends inside a case it writes `bad case` and ends.
 // An op is a function in the file of its group, and an arm in `answer`, `with_room` or `with_words`; T, which has no answer and may be
 // larger, is taken before.
+#![tactic(auto)]
+
 mod checks;
 mod credits;
 mod dates;
@@ -25,6 +27,7 @@ use lists::{fill_words, list_events, list_parentheticals};
 use lookups::list_links;
 use output::{Told, front, no_case};
 use programs::{Output, Source};
+use std::io::{Stdin, Stdout};
 use tables::{Tables, lend, no_tables};
 use texts::fill;
 
@@ -331,6 +334,8 @@ fn finish(state: State, out: &mut [u8]) {
 
 // All cases. A proved loop has to end, and nothing says that the input does: so the turns are counted down, from a number that no run uses up.
 fn run(
+    stdin: Stdin,
+    stdout: Stdout,
     input: &mut [u8],
     payload: &mut [u8],
     names: &mut [u8],
@@ -343,9 +348,9 @@ fn run(
 {
     let mut turns = u64::MAX;
     let mut state = State {
-        source: Source::new(),
+        source: Source::new(stdin),
         tables: no_tables(),
-        output: Output::new(),
+        output: Output::new(stdout),
         more: true,
         is_end: false,
     };
@@ -357,7 +362,7 @@ fn run(
 }
 
 // The smaller areas, and the run.
-fn with_large_areas(names: &mut [u8], words: &mut [u32])
+fn with_large_areas(stdin: Stdin, stdout: Stdout, names: &mut [u8], words: &mut [u32])
     requires { 2621440 ≡ length names.old }
 {
     let mut ends = end_area();
@@ -366,6 +371,8 @@ fn with_large_areas(names: &mut [u8], words: &mut [u32])
     let mut room = io::large_buffer();
     let mut out = io::large_buffer();
     run(
+        stdin,
+        stdout,
         &mut input,
         &mut payload,
         names,
@@ -377,8 +384,8 @@ fn with_large_areas(names: &mut [u8], words: &mut [u32])
 }
 
 // The two largest areas first. The stack has 8 MiB, and a function that makes an area may hold it a second time: so they are not all made in one.
-fn main() {
+fn main(rt: HostRuntime) {
     let mut names = name_area();
     let mut words = word_area();
-    with_large_areas(&mut names, &mut words);
+    with_large_areas(rt.stdin(), rt.stdout(), &mut names, &mut words);
 }

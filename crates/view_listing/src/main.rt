@@ -1,5 +1,7 @@
 // Lists a sample comment of document 01, read through a view: the answer, and then the words of the room, a record to a line.
 // First with room for all, then with room for two records and three words, then over a span that is refused.
+#![tactic(auto)]
+
 use byte_rules::Reading;
 use comment_view::events_by_view;
 use events::EVENT_WIDTH;
@@ -28,10 +30,10 @@ fn put_listing(output: Output, buffer: &mut [u8], end: usize, room: &mut [u32]) 
     head.rows(buffer, room, EVENT_WIDTH)
 }
 
-fn main() {
+fn main(rt: HostRuntime) {
     let mut buffer = io::buffer();
     let mut all = [77u32; 30];
-    let first = put_listing(Output::new(), &mut buffer, 11, &mut all);
+    let first = put_listing(Output::new(rt.stdout()), &mut buffer, 11, &mut all);
     let mut two = [77u32; 13];
     let second = put_listing(first, &mut buffer, 11, &mut two);
     let parted = second.byte(&mut buffer, b'\n');
