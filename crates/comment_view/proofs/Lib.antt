@@ -1,5 +1,2 @@
-pub mod Again
 pub mod Answers
-pub mod Lent
-pub mod Machine
 pub mod Turns

@@ -1,48 +1,41 @@
 -- `lay_step` meets its contract: what is no event lays nothing, and an event's record, whose numbers fit a word, is laid behind the words written.
 -- Assumes nothing.
 use Prim.Native.Nat.{ℕ, ◌+◌, ◌≤◌}
-use mathlib.Core.Path.{refl, ap, sym, subst}
+use mathlib.Core.Path.{◌≡◌, refl, ap, sym, subst}
 use mathlib.Core.Bool.{false}
-use mathlib.Core.Logic.{inl, inr}
 use mathlib.Core.List.{List, [], ◌∷◌}
 use native.Mathlib.Omega.{arith}
 use lib.ListN.{length, take-append-drop}
-use types.Run.{OneOf}
-use denote.Enum.Declared.{tag_of}
 use Rattle.records.specs.Answer.{longest}
 use Rattle.records.specs.Records.{laid, used}
 use Rattle.records.specs.declared.Wrote.{Wrote}
 use Rattle.comment_parser.specs.Bounds.{Within}
 use Rattle.events.specs.Events.{event_width}
+use Rattle.comment_parser.specs.declared.CommentItem.{CommentItem}
 use Rattle.comment_view.specs.Listed.{Ready, ReadyFor, Lays}
 use Rattle.comment_view.specs.declared.NextItem.{NextItem}
 use Rattle.comment_view.specs.declared.NextItem.TheVariants.{Event, End, Refused}
 use Rattle.comment_view.specs.declared.listed.Listing.{Listing}
-use Rattle.comment_view.specs.contracts.NextItem as S
 use Rattle.comment_view.proofs.Turns.{stays_inside, few_words, lays_one}
 use borrow.Author.Rules.{rules}
 use Rattle.comment_view.proofs.listed.lay_step.Goals as goal
 use Rattle.comment_view.proofs.listed.lay_step.Goals.{After-lay-wrote, After-placed-p}
 
 -- a step that gives no event
-never : OneOf (1 ∷ 2 ∷ []) 0 → ⊥
-never (inl e) = omega arith
-never (inr e) = omega arith
-
-stops : (done : Listing) (s : NextItem) (out : List ℕ) → OneOf (1 ∷ 2 ∷ []) (tag_of S.the_type s) → Lays done s out (record { going = false; words = done.words; count = done.count }) out
+stops : (done : Listing) (s : NextItem) (out : List ℕ) → ((i : CommentItem) → s ≡ Event i → ⊥) → Lays done s out (record { going = false; words = done.words; count = done.count }) out
 unfolding laid used
-stops done (Event i) out k = absurd (never k)
+stops done (Event i) out k = absurd (k i refl)
 stops done End out k = record { goes = refl; words = omega arith; counts = omega arith; leaves = sym (take-append-drop done.words out) }
 stops done (Refused r) out k = record { goes = refl; words = omega arith; counts = omega arith; leaves = sym (take-append-drop done.words out) }
 
 pub returns-in_default : goal.returns-in_default
-returns-in_default c = stops _ _ _ c.in-Event.in-Event-own.keys2
+returns-in_default c = stops _ _ _ c.in_default.not-Event
 
 -- what is required, of the step's event
 module _ (c : After-placed-p) where
 
   ready : Ready c.args.done c.in-Event.item c.args.out.now
-  ready = subst (λ (s : NextItem). ReadyFor c.args.done s c.args.out.now) c.in-Event.is c.pre
+  ready = subst (λ (s : NextItem). ReadyFor c.args.done s c.args.out.now) c.in-Event.is c.requires
 
   fits : Within 0 longest c.placed-p.result
   fits = subst (Within 0 longest) (sym c.placed-p.ensures) ready.fits
@@ -79,12 +72,12 @@ module _ (c : After-lay-wrote) where
 pub overflow_add-result : goal.overflow_add-result
 overflow_add-result c =
     let laid = (goal.at.overflow_add-result c).After-lay-wrote in
-    record { fits = omega (arith, inside laid, (at_placed laid).good.1.1.0.0) }
+    omega (arith, inside laid, laid.well_formed)
 
 pub overflow_add-result-2 : goal.overflow_add-result-2
 overflow_add-result-2 c =
     let laid = (goal.at.overflow_add-result-2 c).After-lay-wrote in
-    record { fits = omega (arith, ap (λ (w : Wrote). w.count) laid.lay-wrote.ensures.wrote, few laid, (ready (at_placed laid)).few) }
+    omega (arith, ap (λ (w : Wrote). w.count) laid.lay-wrote.ensures.wrote, few laid, (ready (at_placed laid)).few)
 
 pub returns : goal.returns
 returns c =
