@@ -11,15 +11,15 @@ use Rattle.byte_rules.specs.Reading.{Reading, named}
 use Rattle.lines.specs.Lines.{line_of}
 use Rattle.lines.proofs.Laws.{line_most}
 use Rattle.comment_parser.specs.Item.{placed_of}
-use Rattle.comment_parser.specs.Events.{left, seen}
+use Rattle.comment_parser.specs.Events.{seen}
 use Rattle.comment_parser.specs.declared.Placed.{Placed}
 use Rattle.comment_parser.specs.declared.CommentItem.{CommentItem}
 use Rattle.comment_parser.specs.declared.ParserState.{ParserState}
 use Rattle.comment_parser.proofs.Events.{events_start}
-use Rattle.comment_parser.proofs.Along.{Along, along_starts, along_end, along_event, along_less, along_within, along_on}
-use Rattle.programs.specs.Output.{waiting, gathered}
+use Rattle.comment_parser.proofs.Along.{along_starts, along_end, along_event, along_less, along_within, along_on}
+use Rattle.programs.specs.Output.{waiting}
 use Rattle.programs.proofs.Gathering.{gather_on, gather_end}
-use Rattle.listing.specs.Listing.{event_line, event_lines}
+use Rattle.listing.specs.Listing.{event_line}
 use Rattle.listing.proofs.Lines.{lines_from, lines_on, lines_end, Carried, carried_starts, carried_number, carried_on}
 use Rattle.listing.proofs.put_events.Goals as goal
 use Rattle.listing.proofs.put_events.Goals.{After-lines_between, After-next_noted-noted, At-loop-after, In-Event}

@@ -3,11 +3,7 @@
 use Prim.Native.Nat.{ℕ}
 use mathlib.Core.Path.{sym}
 use lib.ListN.{length-replicate}
-use Rattle.replay.proofs.word_area.Statement.{statement}
-use Rattle.replay.proofs.word_area.Tie as tie
+use Rattle.replay.proofs.word_area.Goals as goal
 
-returns : tie.Need-returns
+pub returns : goal.returns
 returns c = sym (length-replicate {A = ℕ} 655360 0)
-
-pub word-area-spec : {M : Type 1} → statement M
-word-area-spec = tie.close (tie.spec returns)

@@ -3,11 +3,7 @@
 use Prim.Native.Nat.{ℕ}
 use mathlib.Core.Path.{sym}
 use lib.ListN.{length-replicate}
-use Rattle.replay.proofs.name_area.Statement.{statement}
-use Rattle.replay.proofs.name_area.Tie as tie
+use Rattle.replay.proofs.name_area.Goals as goal
 
-returns : tie.Need-returns
+pub returns : goal.returns
 returns c = sym (length-replicate {A = ℕ} 2621440 0)
-
-pub name-area-spec : {M : Type 1} → statement M
-name-area-spec = tie.close (tie.spec returns)
