@@ -13,9 +13,10 @@ use byte_rules::Reading;
 use comment_parser::{Next, ParserState};
 use line::put_line;
 use lines::lines_between;
-use programs::{Asked, Input, Output, argument, argument_count, asked_for, read_input};
+use programs::{Asked, Input, Output, asked_for, read_input};
 use records::{Checked, check_input};
 use scans::Note;
+use std::env::{Env, FillError};
 use std::io::{Error, Stdout};
 
 // A line for each event, as it is read. Places never fall, so the number of the line is carried along. It stops where a write fails.
@@ -95,10 +96,20 @@ fn list_input(rt: &HostRuntime, reading: Reading) {
     }
 }
 
-// The room for the argument has one byte more than `--strict`, so that a longer one is told from it.
+// How many arguments there are, the program's own name among them. To ask whether there is one takes no room.
+fn argument_count<E: Env>(env: &E) -> usize {
+    for i in 0..usize::MAX {
+        if let Err(FillError::NotPresent) = env.arg(i, &mut []) {
+            return i;
+        }
+    }
+    usize::MAX
+}
+
+// The room for the argument has one byte more than `--strict`, so that a longer one is told from it. Of one that is longer still nothing is put there.
 fn main(rt: HostRuntime) {
     let mut first = [0u8; 9];
-    let length = argument(&rt, 1, &mut first);
+    let length = rt.arg(1, &mut first).unwrap_or(0);
     match asked_for(argument_count(&rt), &first[..length]) {
         Asked::Read(reading) => list_input(&rt, reading),
         Asked::WrongUse => {

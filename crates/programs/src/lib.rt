@@ -6,7 +6,7 @@ mod lines;
 mod reading;
 mod writing;
 
-pub use arguments::{Asked, argument, argument_count, asked_for};
+pub use arguments::{Asked, asked_for};
 pub use lines::refusal_number;
 pub use reading::read_input;
 use std::io::{Stdin, Stdout};

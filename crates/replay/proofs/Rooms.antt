@@ -1,11 +1,11 @@
 -- The room of a text call, filled with its pattern: a turn (pattern-step), its length (pattern-long), and the end (pattern-all).
 -- Assumes nothing.
 use Prim.Native.Nat.{ℕ, zero, suc, ◌+◌, ◌%◌, ◌≤◌, ◌<◌}
-use mathlib.Core.Path.{◌≡◌, refl, sym, ap, ◌∙◌}
+use mathlib.Core.Path.{◌≡◌, refl, sym, ◌∙◌}
 use mathlib.Core.List.{List, [], ◌∷◌, append-nil}
 use native.Mathlib.Omega.{arith}
 use native.Mathlib.Numerals.{add-one}
-use lib.ListN.{length, set, get_or, length-append, drop_of_length-le}
+use lib.ListN.{length, set, length-append, drop_of_length-le}
 use Rattle.records.specs.Over.{over}
 use Rattle.records.proofs.Over.{over_long, over_more}
 use Rattle.replay.specs.Pattern.{pattern_to}

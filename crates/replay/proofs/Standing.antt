@@ -1,9 +1,7 @@
 -- Spots of tables: nowhere stands none (stands-nowhere), and a table that stands does so in its spot (stands_of).
 -- Assumes nothing.
-use Prim.Native.Nat.{◌≤◌}
 use mathlib.Core.Path.{◌≡◌}
 use Rattle.basics.proofs.Laws.{differ}
-use Rattle.replay.specs.declared.tables.Spot.{Spot}
 use Rattle.replay.specs.declared.tables.Spot.TheVariants.{Of, Nowhere}
 use Rattle.replay.specs.declared.tables.Table.{Table}
 use Rattle.replay.specs.Tables.{Standing, Stands}

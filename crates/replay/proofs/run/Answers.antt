@@ -1,9 +1,7 @@
 -- `run` is safe and ends: each area keeps its length. The measure is the number of turns that are left.
 -- Assumes nothing.
-use mathlib.Core.Path.{◌≡◌, refl, ◌∙◌}
+use mathlib.Core.Path.{refl, ◌∙◌}
 use native.Mathlib.Omega.{arith}
-use lib.ListN.{length}
-use Rattle.replay.specs.Tables.{Lent}
 use Rattle.replay.proofs.run.Goals as goal
 
 pub loop-turns-init : goal.loop-turns-init

@@ -1,7 +1,6 @@
 -- `run` is safe and ends: each area keeps its length. The measure is the number of turns that are left.
 -- Assumes nothing.
-use mathlib.Core.Path.{◌≡◌, refl, ◌∙◌}
-use native.Mathlib.Omega.{arith}
+use mathlib.Core.Path.{◌≡◌}
 use lib.ListN.{length}
 use Rattle.replay.specs.Tables.{Lent}
 use Rattle.replay.proofs.run.Given as goal

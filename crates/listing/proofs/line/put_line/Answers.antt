@@ -1,6 +1,5 @@
 -- `put_line` meets its contract: the part of the table between two ends is the name.
 -- Assumes nothing.
-use native.Mathlib.Omega.{arith}
 use Rattle.listing.specs.Listing.{name_of, event_line}
 use Rattle.listing.proofs.Names.{Named, named}
 use Rattle.listing.proofs.line.put_line.Goals as goal

@@ -1,7 +1,6 @@
 -- `count_steps` is safe and ends. The measure is the number of steps that are left.
 -- Assumes nothing.
 use Prim.Native.Nat.{◌-◌, ◌≤◌}
-use native.Mathlib.Omega.{arith}
 use Rattle.replay.proofs.credits.count_steps.Given as goal
 
 abbrev pub invariant-loop-count : goal.invariant-loop-count

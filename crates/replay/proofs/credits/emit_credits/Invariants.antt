@@ -1,8 +1,7 @@
 -- `emit_credits` is safe and ends. The measure is the number of parentheticals that are left.
 -- Assumes nothing.
 use Prim.Native.Nat.{◌-◌}
-use mathlib.Core.Path.{◌≡◌, refl}
-use native.Mathlib.Omega.{arith}
+use mathlib.Core.Path.{◌≡◌}
 use lib.ListN.{length}
 use Rattle.replay.proofs.credits.emit_credits.Given as goal
 

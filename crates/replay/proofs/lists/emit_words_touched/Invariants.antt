@@ -1,8 +1,7 @@
 -- `emit_words_touched` is safe and ends. The measure is what is left of the words.
 -- Assumes nothing.
 use Prim.Native.Nat.{◌-◌}
-use mathlib.Core.Path.{◌≡◌, refl}
-use native.Mathlib.Omega.{arith}
+use mathlib.Core.Path.{◌≡◌}
 use lib.ListN.{length}
 use Rattle.replay.proofs.lists.emit_words_touched.Given as goal
 

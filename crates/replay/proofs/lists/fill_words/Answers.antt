@@ -1,9 +1,8 @@
 -- `fill_words` is safe and ends. The measure is what is left of the words.
 -- Assumes nothing.
-use Prim.Native.Nat.{◌-◌}
-use mathlib.Core.Path.{◌≡◌, refl}
+use mathlib.Core.Path.{refl}
 use native.Mathlib.Omega.{arith}
-use lib.ListN.{length, length-set}
+use lib.ListN.{length-set}
 use Rattle.replay.proofs.lists.fill_words.Goals as goal
 
 pub loop-i-init : goal.loop-i-init

@@ -1,9 +1,8 @@
 -- `fill_words` is safe and ends. The measure is what is left of the words.
 -- Assumes nothing.
 use Prim.Native.Nat.{◌-◌}
-use mathlib.Core.Path.{◌≡◌, refl}
-use native.Mathlib.Omega.{arith}
-use lib.ListN.{length, length-set}
+use mathlib.Core.Path.{◌≡◌}
+use lib.ListN.{length}
 use Rattle.replay.proofs.lists.fill_words.Given as goal
 
 abbrev pub invariant-loop-i : goal.invariant-loop-i

@@ -1,14 +1,10 @@
 -- `emit_hex` meets its contract. The invariant: to gather the bytes that are left is to gather all from the start.
 -- Assumes nothing.
-use Prim.Native.Nat.{◌+◌, ◌-◌, ◌/◌, ◌%◌, ◌≤◌}
-use mathlib.Core.Path.{◌≡◌, refl, ◌∙◌}
-use mathlib.Core.List.{[], ◌∷◌, ◌++◌}
-use native.Mathlib.Omega.{arith}
-use lib.ListN.{length, get_or, drop, drop_of_length-le}
+use Prim.Native.Nat.{◌-◌, ◌≤◌}
+use mathlib.Core.Path.{◌≡◌}
+use lib.ListN.{length, drop}
 use Rattle.programs.specs.Output.{waiting, gathered}
-use Rattle.programs.proofs.Gathering.{gather_both, gather_on, gather_end}
-use Rattle.replay.specs.Hex.{digit_of, hex_of}
-use Rattle.replay.proofs.Hex.{hex_at}
+use Rattle.replay.specs.Hex.{hex_of}
 use Rattle.replay.proofs.output.emit_hex.Given as goal
 
 abbrev pub invariant-loop-i : goal.invariant-loop-i

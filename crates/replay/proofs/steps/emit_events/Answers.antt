@@ -1,9 +1,7 @@
 -- `emit_events` is safe and ends. The measure is the number of events that are left.
 -- Assumes nothing.
-use Prim.Native.Nat.{◌-◌}
-use mathlib.Core.Path.{◌≡◌, refl}
+use mathlib.Core.Path.{refl}
 use native.Mathlib.Omega.{arith}
-use lib.ListN.{length}
 use Rattle.replay.proofs.steps.emit_events.Goals as goal
 
 pub loop-i-init : goal.loop-i-init

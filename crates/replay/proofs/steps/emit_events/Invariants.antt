@@ -1,8 +1,7 @@
 -- `emit_events` is safe and ends. The measure is the number of events that are left.
 -- Assumes nothing.
 use Prim.Native.Nat.{◌-◌}
-use mathlib.Core.Path.{◌≡◌, refl}
-use native.Mathlib.Omega.{arith}
+use mathlib.Core.Path.{◌≡◌}
 use lib.ListN.{length}
 use Rattle.replay.proofs.steps.emit_events.Given as goal
 

@@ -1,6 +1,5 @@
 -- `walk` is safe and ends. The measure is the number of steps that are left.
 -- Assumes nothing.
-use Prim.Native.Nat.{◌-◌, ◌≤◌}
 use native.Mathlib.Omega.{arith}
 use Rattle.replay.proofs.steps.walk.Goals as goal
 

@@ -1,9 +1,8 @@
 -- `take_words` is safe and ends. The measure is what is still to be filled.
 -- Assumes nothing.
-use Prim.Native.Nat.{◌-◌}
-use mathlib.Core.Path.{◌≡◌, refl}
+use mathlib.Core.Path.{refl}
 use native.Mathlib.Omega.{arith}
-use lib.ListN.{length, length-set}
+use lib.ListN.{length-set}
 use Rattle.replay.proofs.tables.take_words.Goals as goal
 
 pub loop-done-init : goal.loop-done-init

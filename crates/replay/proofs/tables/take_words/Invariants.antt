@@ -1,9 +1,8 @@
 -- `take_words` is safe and ends. The measure is what is still to be filled.
 -- Assumes nothing.
 use Prim.Native.Nat.{◌-◌}
-use mathlib.Core.Path.{◌≡◌, refl}
-use native.Mathlib.Omega.{arith}
-use lib.ListN.{length, length-set}
+use mathlib.Core.Path.{◌≡◌}
+use lib.ListN.{length}
 use Rattle.replay.proofs.tables.take_words.Given as goal
 
 abbrev pub invariant-loop-done : goal.invariant-loop-done

@@ -1,9 +1,7 @@
 -- `emit_touched` is safe and ends. The measure is what is left of the bytes.
 -- Assumes nothing.
-use Prim.Native.Nat.{◌-◌}
-use mathlib.Core.Path.{◌≡◌, refl}
+use mathlib.Core.Path.{refl}
 use native.Mathlib.Omega.{arith}
-use lib.ListN.{length}
 use Rattle.replay.proofs.texts.emit_touched.Goals as goal
 
 pub loop-i-init : goal.loop-i-init

@@ -1,12 +1,10 @@
 -- `fill` meets its contract: so far the front of the room is the pattern.
 -- Assumes nothing.
 use Prim.Native.Nat.{◌-◌, ◌≤◌}
-use mathlib.Core.Path.{◌≡◌, refl}
-use native.Mathlib.Omega.{arith}
+use mathlib.Core.Path.{◌≡◌}
 use lib.ListN.{length}
 use Rattle.records.specs.Over.{over}
 use Rattle.replay.specs.Pattern.{pattern_to}
-use Rattle.replay.proofs.Rooms.{pattern_long, pattern_step, pattern_all}
 use Rattle.replay.proofs.texts.fill.Given as goal
 
 abbrev pub invariant-loop-i : goal.invariant-loop-i
