@@ -8,6 +8,25 @@ use crate::reading::error_number;
 use decimal::put_number;
 use std::io::Stdout;
 
+// Writes the bytes, unless a write failed before. As many bytes wait as did.
+fn write(output: Output, bytes: &[u8]) -> Output
+    ensures good { result.good ≡ true → output.good ≡ true }
+    ensures used { result.used ≡ output.used }
+{
+    if !output.good {
+        return output;
+    }
+    match output.stdout.write_all(bytes) {
+        Ok(()) => output,
+        Err(error) => Output {
+            stdout: output.stdout,
+            used: output.used,
+            good: false,
+            error: error_number(&error),
+        },
+    }
+}
+
 impl Output {
     pub fn new(stdout: Stdout) -> Output
         ensures { result ≡ record { stdout = stdout; used = 0; good = true; error = pos 0 } }
@@ -20,26 +39,7 @@ impl Output {
         }
     }
 
-    // Writes the bytes, unless a write failed before. What waits is as it was.
-    fn write(self, bytes: &[u8]) -> Output
-        ensures good { result.good ≡ true → self.good ≡ true }
-        ensures used { result.used ≡ self.used }
-    {
-        if !self.good {
-            return self;
-        }
-        match self.stdout.write_all(bytes) {
-            Ok(()) => self,
-            Err(error) => Output {
-                stdout: self.stdout,
-                used: self.used,
-                good: false,
-                error: error_number(&error),
-            },
-        }
-    }
-
-    // The same, where so many bytes wait.
+    // The output, with so many bytes that wait.
     fn with_waiting(self, used: usize) -> Output
         ensures good { result.good ≡ self.good }
         ensures used { result.used ≡ used }
@@ -61,9 +61,9 @@ impl Output {
             buffer[used] = b;
             return self.with_waiting(used + 1);
         }
-        let written = self.write(buffer);
+        let written = write(self, buffer);
         if buffer.len() == 0 {
-            return written.write(&[b]).with_waiting(0);
+            return write(written, &[b]).with_waiting(0);
         }
         buffer[0] = b;
         written.with_waiting(1)
@@ -96,9 +96,9 @@ impl Output {
     {
         let used = self.used;
         if used < buffer.len() {
-            return self.write(&buffer[..used]);
+            return write(self, &buffer[..used]);
         }
-        self.write(buffer)
+        write(self, buffer)
     }
 
     // Writes what waits. Says whether every write went well: it did not if an earlier one failed.
