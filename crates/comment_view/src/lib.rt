@@ -1,4 +1,6 @@
 // The parser in the two forms that are proved by hand: a state that the caller lends, and a view that holds the buffer together with the state.
+#![tactic(auto)]
+
 mod listed;
 mod unescaping;
 
