@@ -1,4 +1,6 @@
 // What is about no byte and no rule: a span, a place that may be missing, and the lesser of two numbers.
+#![tactic(auto)]
+
 ghost use Rattle.std.specs.Prelude.{◌≡◌, min};
 
 // The part of a buffer from `start` up to `end`.

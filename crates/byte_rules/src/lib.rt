@@ -1,5 +1,7 @@
 // The byte rules of document 01: what class a byte belongs to. The crates above know them by these promises alone.
 // Four classes stand on one sheet (classes.rt). What a text asks for most is told by a comparison, before the sheet is read.
+#![tactic(auto)]
+
 mod classes;
 pub mod names;
 mod reading;

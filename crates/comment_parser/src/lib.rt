@@ -1,4 +1,6 @@
 // The parser of comment markup: its item type, its state, and the call that gives the next event. Positions are places in the buffer.
+#![tactic(auto)]
+
 mod own;
 mod pass;
 mod rules;

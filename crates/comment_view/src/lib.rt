@@ -1,4 +1,6 @@
-// The parser in the two forms that are proved by hand: a state that the caller lends, and a view that holds the buffer together with the state.
+// The parser in two more forms: a state that the caller lends, and a view that holds the buffer together with the state.
+#![tactic(auto)]
+
 mod listed;
 mod unescaping;
 
@@ -74,7 +76,7 @@ pub struct Opened<'a> {
 
 impl<'a> View<'a> {
     // A view of a span, in the reading that is named. A buffer that is too long (1) and a span that is none of it (2) are refused; the view
-    // is made all the same, gives no event and stays as it is (`refused-view` in proofs/Answers.antt).
+    // is made all the same, gives no event and stays as it is (`refused_view` in proofs/Answers.antt).
     pub fn open(reading: Reading, buf: &'a [u8], start: usize, end: usize) -> Opened<'a>
         ensures { (opened_answer result.answer ≡ open_answer buf.now start end) × (result.view ≡ view_of reading buf.entry start end) }
     {

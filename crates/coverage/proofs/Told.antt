@@ -1,4 +1,4 @@
--- The events of a span are read to the end, and account for it: `read-to-end` and `accounts`, of every reading. The turns that are enough are
+-- The events of a span are read to the end, and account for it: `read_to_end` and `accounts`, of every reading. The turns that are enough are
 -- comment_parser's matter: here the list is known by its step laws alone.
 -- Assumes nothing.
 use Prim.Native.Nat.{ℕ, zero, suc, ◌≤◌, ◌<◌}

@@ -245,7 +245,7 @@ module _ (s t : List ℕ) where
     both_blank : Some (λ x. Holds p x × Loose x.what) xs → is_blank (get_or s p 0) ≡ true → is_blank (get_or t p 0) ≡ true → Agree xs p
 
 -- THE THEOREMS. The bound on the buffer is the one by which `next` refuses it (answer 1), and is needed for that alone: a longer buffer has no events
--- (proofs/Checks.antt, refused-has-none), and no other step of the proof looks at it.
+-- (proofs/Checks.antt, refused_has_none), and no other step of the proof looks at it.
 
 -- "a span inside a buffer of at most 4,294,967,295 bytes"
 pub record AcceptedSpan (buf : List ℕ) (a b : ℕ) : Type 0 where

@@ -1,9 +1,9 @@
 -- The laws of the order of dates:
---     order-one      two outcomes that the contract permits coincide
---     order-swap     the other way round, earlier is later
+--     order_one      two outcomes that the contract permits coincide
+--     order_swap     the other way round, earlier is later
 --     order_same     a date is equal to itself
---     order-equal    and to no other
---     order-after    a date earlier than one that is earlier than a third is earlier than the third
+--     order_equal    and to no other
+--     order_after    a date earlier than one that is earlier than a third is earlier than the third
 -- Assumes nothing.
 use Prim.Native.Nat.{ℕ, ◌-◌, ◌<◌}
 use mathlib.Core.Path.{◌≡◌, refl}

@@ -1,7 +1,7 @@
 -- The laws of reading a date:
---     read-ten, read-eleven    the bytes of a day are told by the length
---     read-other, answer-other    bytes of any other length are no date: answer 5
---     date-one      two outcomes that the contract permits coincide
+--     read_ten, read_eleven    the bytes of a day are told by the length
+--     read_other, answer_other    bytes of any other length are no date: answer 5
+--     date_one      two outcomes that the contract permits coincide
 -- Assumes nothing.
 use Prim.Native.Nat.{ℕ}
 use mathlib.Core.Path.{◌≡◌, refl, ap, sym}

@@ -1,4 +1,6 @@
 // Dates as `2-Feb-2020`: read, written, put in order, and held to the calendar.
+#![tactic(auto)]
+
 mod calendar;
 mod ordering;
 mod reading;

@@ -16,6 +16,7 @@ enum Number {
 }
 
 // Digits, at least one.
+#[tactic(auto, using(crate::proofs::NumberLaws::digits_none))]
 fn read_digits(s: &[u8]) -> Number
     requires { length s.now ≤ 4 }
     ensures { result ≡ digits s.now }

@@ -1,9 +1,9 @@
 -- The laws of `decimal`:
---     decimal-small    a number below ten is its own digit
---     decimal-more     any other: the digits of the number divided by ten, then the last digit
---     length-small, length_more    the same of how many digits there are
+--     decimal_small    a number below ten is its own digit
+--     decimal_more     any other: the digits of the number divided by ten, then the last digit
+--     length_small, length_more    the same of how many digits there are
 --     length_some      there is a digit
---     length-below     a number below 10 ^ k has at most k digits, for k from 1
+--     length_below     a number below 10 ^ k has at most k digits, for k from 1
 -- Assumes nothing.
 use Prim.Native.Nat.{ℕ, zero, suc, ◌+◌, ◌/◌, ◌%◌, ◌^◌, ◌<◌, ◌≤◌}
 use mathlib.Core.Path.{◌≡◌, refl, ap, ◌∙◌}

@@ -1,4 +1,6 @@
 // Numbers in decimal digits, most significant first.
+#![tactic(auto)]
+
 ghost use Rattle.std.specs.Prelude.{◌≡◌, ◌≤◌, length};
 ghost use Rattle.std.proofs.Math.Option.{none};
 ghost use Rattle.records.specs.Answer.{filled_answer};

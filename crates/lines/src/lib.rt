@@ -1,4 +1,6 @@
 // Line numbers: how many lines lie between two places of a buffer, and the lines of records, filled in behind the calls that lay them.
+#![tactic(auto)]
+
 mod count;
 mod cursor;
 

@@ -1,4 +1,6 @@
 // The links of a comment: each label that a lent table has, with its entry there.
+#![tactic(auto)]
+
 ghost use Rattle.std.specs.Prelude.{◌≡◌, ◌≤◌, length};
 ghost use Rattle.std.proofs.Math.Option.{none};
 ghost use Rattle.byte_rules.specs.Reading.{named};

@@ -1,4 +1,6 @@
 // What stands at a place of a text. Past its end no test holds.
+#![tactic(auto)]
+
 ghost use Rattle.std.specs.Prelude.{◌≡◌};
 ghost use Rattle.byte_rules.specs.Reading.{named};
 ghost use Rattle.look.specs.Look.{holds_at, byte_at, blank_at, alphanumeric_at, closer_at, italic_opener_at, doubled_at, word_at};

@@ -1,11 +1,11 @@
 -- What the crates above use of tables:
---     entry_found, entry-missing    the walk gives an entry that has the name, or else none has it
---     searched-good     over a table that is not refused the search gives what the walk gives
---     entry-is          there the entry that has the name is what the walk gives
---     entry-end         there the end of an entry is not below its number
---     searched-end      so an entry that the search gives fits a word, as its end does
---     empty-good, empty-missing     a table of no name is not refused, and no name is found in it
---     known-one         two outcomes of a lookup that its contract permits coincide
+--     entry_found, entry_missing    the walk gives an entry that has the name, or else none has it
+--     searched_good     over a table that is not refused the search gives what the walk gives
+--     entry_is          there the entry that has the name is what the walk gives
+--     entry_end         there the end of an entry is not below its number
+--     searched_end      so an entry that the search gives fits a word, as its end does
+--     empty_good, empty_missing     a table of no name is not refused, and no name is found in it
+--     known_one         two outcomes of a lookup that its contract permits coincide
 -- Assumes nothing.
 use Prim.Native.Nat.{ℕ, zero, suc, ◌-◌, ◌≤◌, ◌<◌}
 use mathlib.Core.Path.{◌≡◌, refl, sym, ◌∙◌}

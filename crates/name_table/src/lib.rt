@@ -1,4 +1,6 @@
 // Lent tables of names: the names' bytes end to end, and a list of their ends.
+#![tactic(auto)]
+
 mod checking;
 mod ordering;
 mod searching;

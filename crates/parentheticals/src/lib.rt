@@ -1,4 +1,6 @@
 // Parentheticals of a comment: who contributed, revised or shortened a proof and when, and what is discouraged.
+#![tactic(auto)]
+
 mod fields;
 mod flags;
 mod list;

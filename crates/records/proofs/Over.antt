@@ -1,14 +1,14 @@
 -- The laws of `over`:
 --     over_done               the text call that left this, where there is room
---     over-left               what a text call leaves, where there is room
---     over-more               one byte more
---     over-then               a text after another, written into the tail that is handed on
---     over-long, over-again   it keeps the room's length; a longer one over it leaves nothing of it
---     over-step, over-all     written one by one: a turn, and the end
+--     over_left               what a text call leaves, where there is room
+--     over_more               one byte more
+--     over_then               a text after another, written into the tail that is handed on
+--     over_long, over_again   it keeps the room's length; a longer one over it leaves nothing of it
+--     over_step, over_all     written one by one: a turn, and the end
 -- Assumes nothing.
 use Prim.Native.Nat.{ℕ, ◌+◌, ◌-◌, ◌≤◌, ◌<◌}
 use mathlib.Core.Path.{◌≡◌, refl, ap, sym, ◌∙◌}
-use mathlib.Core.List.{List, [], ◌∷◌, ◌++◌, append_assoc, append-nil}
+use mathlib.Core.List.{List, [], ◌∷◌, ◌++◌, append_assoc}
 use mathlib.Core.Option.{Option, none}
 use native.Mathlib.Omega.{arith}
 use native.Mathlib.Numerals.{add-one}

@@ -1,4 +1,6 @@
 // Document 01's answers, and records written into an area that the caller lends.
+#![tactic(auto)]
+
 ghost use Rattle.std.specs.Prelude.{◌≡◌, [], ◌∷◌, length};
 ghost use Rattle.records.specs.Answer.{checked_answer, length_refusal, span_refusal, state_refusal, input_refusal};
 ghost use Rattle.records.specs.Records.{laid, wrote_of};

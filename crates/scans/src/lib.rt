@@ -1,5 +1,7 @@
 // Where blanks, a tag, a subscript and an italic end. Each is a scan along the bytes by a rule, which says at each place to step one, to step
 // two, or to stop there.
+#![tactic(auto)]
+
 pub mod labels;
 pub mod plain;
 

@@ -8,7 +8,7 @@ use Rattle.basics.proofs.Laws.{differ}
 use Rattle.comment_parser.specs.Item.{span}
 use Rattle.basics.specs.declared.Span.{Span}
 use Rattle.comment_parser.specs.declared.CommentItem.{CommentItem}
-use Rattle.comment_parser.specs.declared.CommentItem.TheVariants.{Text, LineBreak, StartMathMode, EndMathMode, MathToken, Label, Url, StartHtml, EndHtml, StartSubscript, EndSubscript, StartItalic, EndItalic, BibTag}
+use Rattle.comment_parser.specs.declared.CommentItem.TheVariants.{Text, StartMathMode, EndMathMode, MathToken, StartSubscript, EndSubscript, StartItalic, EndItalic}
 use Rattle.strict.specs.Strict as spec
 use Rattle.strict.specs.Strict.{Alone, Inside, WellFormed, OneTextAndEnd, UntilEndItalic, UntilEndMath, StartAndOneText, SinceStartItalic, SinceStartMath, MarksPair}
 

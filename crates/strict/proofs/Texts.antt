@@ -7,20 +7,18 @@ use mathlib.Core.Path.{◌≡◌, refl, sym, ◌∙◌}
 use native.Mathlib.Nat.{le_refl}
 use native.Mathlib.Omega.{arith}
 use borrow.Author.Tests.{ltb-true}
-use lib.Dec.{ltb, eqb}
+use lib.Dec.{ltb}
 use lib.ListN.{get_or, length}
 use Rattle.byte_rules.specs.Classes.{is_blank, is_closer, is_alphanumeric}
 use Rattle.byte_rules.specs.Reading.{is_mark, strict}
 use Rattle.byte_rules.proofs.Laws.{lf_is_blank, four_marks, no_mark, under_is_closer, no_letters}
 use Rattle.basics.proofs.Laws.{differ, neither}
 use Rattle.look.specs.Look.{holds_at, byte_at, blank_at, closer_at, alphanumeric_at, doubled_at}
-use Rattle.look.proofs.Laws.{holds_in, byte_test, byte_other, not_byte, other_byte, doubled_first, doubled_not, doubled_within, alphanumeric_within}
+use Rattle.look.proofs.Laws.{holds_in, byte_test, byte_other, not_byte, other_byte, doubled_not, alphanumeric_within}
 use Rattle.scans.specs.Marks.{tick, tilde, lbracket, under, less, lf}
-use Rattle.scans.specs.Scan.{scan}
 use Rattle.scans.specs.Ends.{subscript_step, italic_step, subscript_stop, subscript_end, italic_stop, italic_end, closes_italic}
-use Rattle.basics.specs.declared.Place.{Place}
 use Rattle.basics.specs.declared.Place.TheVariants.{At, Nowhere}
-use Rattle.scans.specs.declared.Step.TheVariants.{One, Two, Stop}
+use Rattle.scans.specs.declared.Step.TheVariants.{One, Stop}
 use Rattle.scans.proofs.EndLaws.{found}
 use Rattle.scans.proofs.Laws.{Leads, by_one, stops, scanned, by_less, clash, scan_one, scan_two, scan_stop, scan_ge, scan_le}
 

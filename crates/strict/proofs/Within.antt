@@ -1,42 +1,34 @@
 -- What a pass ends in within an italic and within a subscript, whose texts hold no mark.
 -- Assumes nothing.
 use Prim.Native.Nat.{ℕ, ◌+◌, ◌-◌, ◌≤◌, ◌<◌}
-use mathlib.Core.Bool.{Bool, true, false}
+use mathlib.Core.Bool.{true, false}
 use mathlib.Core.List.{List}
 use mathlib.Core.Path.{◌≡◌, refl, sym, ◌∙◌}
 use native.Mathlib.Nat.{le_refl}
 use native.Mathlib.Omega.{arith}
-use borrow.Author.Tests.{lt-ltb, le-ltb, eqb-true, eqb-false, ne_eqb}
-use lib.Dec.{ltb, eqb}
-use lib.ListN.{length, take, drop}
-use Rattle.basics.proofs.Laws.{by_test, by_place}
+use borrow.Author.Tests.{eqb-true, eqb-false, ne_eqb}
+use lib.Dec.{eqb}
+use lib.ListN.{length}
+use Rattle.basics.proofs.Laws.{by_test}
 use Rattle.byte_rules.specs.Reading.{strict}
-use Rattle.look.specs.Look.{byte_at, blank_at, doubled_at, word_at}
-use Rattle.look.proofs.Laws.{byte_within, byte_other, doubled_first, doubled_within}
-use Rattle.scans.specs.Marks.{tick, tilde, lbracket, under, less, lf, open_html, close_html}
-use Rattle.scans.specs.Scan.{scan}
-use Rattle.scans.specs.Ends.{italic_step, italic_stop, blanks_end, tag_end, label_end, subscript_end, italic_end, is_url}
-use Rattle.basics.specs.declared.Place.{Place}
-use Rattle.basics.specs.declared.Place.TheVariants.{At, Nowhere}
-use Rattle.scans.proofs.Laws.{Leads, by_one, by_two, stops, scanned, scan_ge, clash}
-use Rattle.comment_parser.specs.Item.{span}
-use Rattle.comment_parser.specs.State.{moved}
-use Rattle.comment_parser.specs.Rules.{after_lf, label_item, tick_rule, tilde_rule, math_rule, html_rule, bracket_rule, newline_rule, opens_italic, open_under, under_rule, plain_rule, text_rule, first_rule, step_to, pass_act}
+use Rattle.look.specs.Look.{byte_at, doubled_at}
+use Rattle.look.proofs.Laws.{byte_within, doubled_first, doubled_within}
+use Rattle.scans.specs.Marks.{under, lf}
+use Rattle.scans.specs.Ends.{italic_step, italic_stop}
+use Rattle.scans.proofs.Laws.{scan_ge, clash}
+use Rattle.comment_parser.specs.Rules.{after_lf, newline_rule, under_rule, plain_rule, first_rule, step_to, pass_act}
 use Rattle.comment_parser.specs.Pass.{pass, run_item}
-use Rattle.comment_parser.specs.declared.CommentItem.{CommentItem}
-use Rattle.comment_parser.specs.declared.CommentItem.TheVariants.{Text, MathToken, Label, Url}
-use Rattle.comment_parser.specs.declared.Waiting.TheVariants.{Item, Nothing}
 use Rattle.comment_parser.specs.declared.ParserState.{ParserState}
 use Rattle.comment_parser.specs.declared.Act.{Act}
 use Rattle.comment_parser.specs.declared.Act.TheVariants.{One, Two, Ends}
 use Rattle.comment_parser.specs.declared.Run.{Run}
-use Rattle.comment_parser.proofs.Passes.{Good, pass_by, act_by}
-use Rattle.strict.specs.Strict.{Alone, Inside}
-use Rattle.strict.proofs.Grammar.{Mode, outside, in_italic, in_math_case, behind_start, behind_text, Goes, alone, start_subscript, subscript_text, end_subscript, start_italic, inside, end_italic, start_math, token, end_math, Final, final_outside, final_math}
+use Rattle.comment_parser.proofs.Passes.{Good, pass_by}
+use Rattle.strict.specs.Strict.{Inside}
+use Rattle.strict.proofs.Grammar.{in_italic, behind_start, behind_text, Goes, subscript_text, end_subscript, inside, end_italic}
 use Rattle.strict.proofs.Texts as texts
 use Rattle.strict.proofs.Texts.{Barless, under_barless, SubscriptByte, ItalicText, ItalicPlace, italic_place, italic_text}
 use Rattle.strict.proofs.Passes.{both, marked, RunPassed, text_run, steps_on, to_plain, to_under}
-use Rattle.strict.proofs.States.{Loose, Outside, InMath, InSubscript, InItalic, Stands, later}
+use Rattle.strict.proofs.States.{InSubscript, InItalic}
 
 -- IN AN ITALIC
 

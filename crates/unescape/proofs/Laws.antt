@@ -1,12 +1,12 @@
 -- The laws of unescaping, for any escape test. Of the text from i on:
---     unescaped-step    its first byte, then the rest past the bytes that stand for it, unescaped
---     unescaped-end     nothing, from the end on
---     step-some, step-within    a step is at least a byte, and ends inside the text
---     step-plain        a byte that is no escape is a step of one
---     step-single       a byte that is not followed by itself is a step of one
---     step-last         the last byte is a step of one, whatever stands behind the text
+--     unescaped_step    its first byte, then the rest past the bytes that stand for it, unescaped
+--     unescaped_end     nothing, from the end on
+--     step_some, step_within    a step is at least a byte, and ends inside the text
+--     step_plain        a byte that is no escape is a step of one
+--     step_single       a byte that is not followed by itself is a step of one
+--     step_last         the last byte is a step of one, whatever stands behind the text
 -- Of a whole text:
---     unescaped-length, unescaped-some    unescaped it is no longer, and not empty unless the text is
+--     unescaped_length, unescaped_some    unescaped it is no longer, and not empty unless the text is
 -- Assumes nothing.
 use Prim.Native.Nat.{ℕ, ◌+◌, ◌≤◌, ◌<◌}
 use mathlib.Core.Path.{◌≡◌, refl, ap}

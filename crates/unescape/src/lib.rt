@@ -1,4 +1,6 @@
 // Unescaping: left to right, a doubled escape byte becomes one, a lone one stays.
+#![tactic(auto)]
+
 ghost use Rattle.std.specs.Prelude.{◌≡◌, ◌++◌, ◌≤◌, length, drop};
 ghost use Rattle.byte_rules.specs.Classes.{is_text_escape, is_label_escape, is_math_escape};
 ghost use Rattle.records.specs.Answer.{filled_answer, span_refusal};

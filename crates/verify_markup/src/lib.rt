@@ -1,5 +1,7 @@
 // The comment check: diagnostics of a comment's markup, against lent tables of symbols, labels and a bibliography.
 // What is said of the bibliography is said by the call's name: here it is, there is none, or tags are not looked up.
+#![tactic(auto)]
+
 mod driver;
 mod items;
 mod kinds;

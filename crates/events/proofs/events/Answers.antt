@@ -12,7 +12,6 @@ use Rattle.records.proofs.Answers.{span_accepted}
 use Rattle.records.specs.Records.{laid}
 use Rattle.records.proofs.Laying.{Laying, back, given_refused, all_counted, all_laid, listed_done, listed_short}
 use Rattle.byte_rules.specs.Reading.{Reading, named}
-use Rattle.comment_parser.specs.Events.{left}
 use Rattle.comment_parser.specs.Notes.{NextBy}
 use Rattle.comment_parser.specs.declared.ParserState.{ParserState}
 use Rattle.comment_parser.proofs.Along.{within_says, along_end, along_less, along_within}

@@ -5,14 +5,13 @@ use Prim.Native.Nat.{◌+◌}
 use native.Mathlib.Omega.{arith}
 use lib.ListN.{get_or}
 use borrow.Author.Tests.{ltb-false}
-use mathlib.Core.Logic.{⊎_elim}
 use Rattle.basics.proofs.Laws.{neither}
 use Rattle.lines.specs.Lines.{line_of, line_word}
 use Rattle.lines.specs.Cursor.{IsLine}
 use Rattle.lines.specs.declared.cursor.Line.{Line}
 use Rattle.lines.proofs.Laws.{line_start}
 use Rattle.lines.proofs.Moving.{in_line}
-use Rattle.lines.proofs.Filling.{Fills, fills_starts, fills_on, fills_end, fills_none}
+use Rattle.lines.proofs.Filling.{fills_starts, fills_on, fills_end, fills_none}
 use Rattle.lines.proofs.fill_lines.Goals as goal
 use Rattle.lines.proofs.fill_lines.Goals.{then-place-line, else-place-line, After-word_of, At-loop-left}
 

@@ -1,6 +1,5 @@
 -- `links::lay_item` meets its contract: a Label's link, and of any other event nothing.
 -- Assumes nothing.
-use mathlib.Core.Path.{refl}
 use Rattle.records.specs.Records.{laid, used}
 use Rattle.links.proofs.Laws.{item_silent}
 use Rattle.links.proofs.lay_item.Goals as goal
@@ -17,6 +16,6 @@ returns-in-Label c = let l = c in record { wrote = rw l.in-Label.is l.lay_label.
 
 pub returns-in_default : goal.returns-in_default
 unfolding laid used
-returns-in_default c = 
+returns-in_default c =
     let a = c.args in
     let none = item_silent a.buf.now a.lb.now a.le.now a.item c.in_default.not-Label in record { wrote = rw none; left = rw none }

@@ -13,7 +13,6 @@ use Rattle.records.proofs.Answers.{span_accepted}
 use Rattle.records.proofs.Laying.{Laying, back, given_refused, given_done, given_short}
 use Rattle.name_table.specs.Table.{table_refusal}
 use Rattle.byte_rules.specs.Reading.{Reading, named}
-use Rattle.comment_parser.specs.Events.{left}
 use Rattle.comment_parser.specs.Notes.{NextBy}
 use Rattle.comment_parser.specs.declared.ParserState.{ParserState}
 use Rattle.comment_parser.proofs.Along.{within_says, along_end, along_less, along_inside}
@@ -32,7 +31,6 @@ returns-in-Refused c =
 
 -- the span is not refused
 module _ (c : In_default) where
-
   span_good : none ≡ span_refusal (length c.args.buf.now) c.args.start c.args.end
   span_good = ap checked_answer (sym c.in_default.is) ∙ c.check_span.ensures
 

@@ -1,11 +1,9 @@
 -- `look::starts` meets its contract: the word's rest stands here just where the word stands at the start.
 -- Assumes nothing.
 use Prim.Native.Nat.{◌≤◌, ◌-◌}
-use mathlib.Core.Path.{◌≡◌, refl, sym, ◌∙◌}
-use native.Mathlib.Omega.{arith}
+use mathlib.Core.Path.{◌≡◌}
 use lib.ListN.{length, drop}
 use Rattle.look.specs.Look.{word_at}
-use Rattle.look.proofs.Laws.{word_short, word_on, word_differs, word_ends}
 use Rattle.look.proofs.starts.Given as goal
 
 abbrev pub invariant-loop-k : goal.invariant-loop-k

@@ -1,6 +1,5 @@
 -- `lay` meets its contract, for a record of any width. The invariant: the words before i are written over the front of the room.
 -- Assumes nothing.
-use Prim.Native.Nat.{◌-◌, ◌≤◌}
 use mathlib.Core.Path.{◌≡◌, refl, sym, ◌∙◌}
 use native.Mathlib.Omega.{arith}
 use borrow.Author.Tests.{le-leb, lt-leb}

@@ -1,10 +1,6 @@
 -- `scans::scan_by` meets its contract: the scan from here stops where the scan from the start does.
-use Prim.Native.Nat.{◌-◌}
-use mathlib.Core.Path.{◌≡◌, refl, sym, ◌∙◌}
-use lib.ListN.{length}
+use mathlib.Core.Path.{refl, sym, ◌∙◌}
 use native.Mathlib.Omega.{arith}
-use Rattle.byte_rules.specs.Reading.{named}
-use Rattle.scans.specs.Ends.{scan_by}
 use Rattle.scans.proofs.Laws.{scan_end, scan_one, scan_two, scan_stop}
 use Rattle.scans.proofs.scan_by.Goals as goal
 

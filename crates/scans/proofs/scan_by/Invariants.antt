@@ -1,11 +1,9 @@
 -- `scans::scan_by` meets its contract: the scan from here stops where the scan from the start does.
 use Prim.Native.Nat.{◌-◌}
-use mathlib.Core.Path.{◌≡◌, refl, sym, ◌∙◌}
+use mathlib.Core.Path.{◌≡◌}
 use lib.ListN.{length}
-use native.Mathlib.Omega.{arith}
 use Rattle.byte_rules.specs.Reading.{named}
 use Rattle.scans.specs.Ends.{scan_by}
-use Rattle.scans.proofs.Laws.{scan_end, scan_one, scan_two, scan_stop}
 use Rattle.scans.proofs.scan_by.Given as goal
 
 abbrev pub invariant-loop-i : goal.invariant-loop-i

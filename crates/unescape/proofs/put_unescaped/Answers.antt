@@ -1,12 +1,12 @@
 -- `unescape::put_unescaped` meets its contract: what is to come of the unescaped text is the rest of the text, unescaped.
 -- Assumes nothing.
-use Prim.Native.Nat.{ℕ, ◌+◌, ◌-◌, ◌≤◌, ◌<◌}
+use Prim.Native.Nat.{ℕ, ◌+◌, ◌<◌}
 use mathlib.Core.Path.{◌≡◌}
 use mathlib.Core.List.{List, ◌∷◌}
 use native.Mathlib.Nat.{le_refl}
 use native.Mathlib.Omega.{arith}
 use lib.ListN.{length, drop, get_or}
-use Rattle.scans.specs.Plain.{plain_step, plain_end}
+use Rattle.scans.specs.Plain.{plain_step}
 use Rattle.scans.proofs.Laws.{scan_ge}
 use Rattle.scans.proofs.PlainLaws.{run_in, run_plain, run_on}
 use Rattle.unescape.specs.Unescape.{is_escape, unescaped}

@@ -1,19 +1,13 @@
 -- `unescape::put_unescaped` meets its contract: what is to come of the unescaped text is the rest of the text, unescaped.
 -- Assumes nothing.
-use Prim.Native.Nat.{ℕ, ◌+◌, ◌-◌, ◌≤◌, ◌<◌}
+use Prim.Native.Nat.{ℕ, ◌-◌, ◌≤◌}
 use mathlib.Core.Path.{◌≡◌}
-use mathlib.Core.List.{List, ◌∷◌}
-use native.Mathlib.Nat.{le_refl}
-use native.Mathlib.Omega.{arith}
-use lib.ListN.{length, drop, get_or}
-use Rattle.scans.specs.Plain.{plain_step, plain_end}
-use Rattle.scans.proofs.Laws.{scan_ge}
-use Rattle.scans.proofs.PlainLaws.{run_in, run_plain, run_on}
+use mathlib.Core.List.{List}
+use lib.ListN.{length, drop}
+use Rattle.scans.specs.Plain.{plain_end}
 use Rattle.unescape.specs.Unescape.{is_escape, unescaped}
 use Rattle.unescape.specs.declared.Escape.{Escape}
-use Rattle.unescape.proofs.Laws.{unescaped_step, unescaped_end, step_some, step_within}
-use Rattle.unescape.proofs.Runs.{plain_first}
-use Rattle.unescape.proofs.Writing.{Writing, writing_starts, writing_long, writing_more, writing_goes, all_written, writing_left}
+use Rattle.unescape.proofs.Writing.{Writing}
 use Rattle.unescape.proofs.put_unescaped.Given as goal
 
 -- the text in the room: all but the rest from i on is written

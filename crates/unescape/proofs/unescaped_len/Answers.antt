@@ -1,6 +1,6 @@
 -- `unescape::unescaped_len` meets its contract: what is counted and what is to come make up the whole.
 -- Assumes nothing.
-use Prim.Native.Nat.{ℕ, ◌+◌, ◌-◌, ◌≤◌}
+use Prim.Native.Nat.{ℕ, ◌+◌, ◌≤◌}
 use mathlib.Core.Path.{◌≡◌, ap}
 use native.Mathlib.Nat.{le_refl}
 use native.Mathlib.Omega.{arith}
@@ -18,7 +18,6 @@ loop-i-init c = omega arith
 
 -- behind the run of plain bytes
 module _ (c : After-plain_end-p) where
-
   abbrev i : ℕ
   i = c.loop-i.i
 

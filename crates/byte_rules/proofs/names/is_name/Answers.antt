@@ -1,10 +1,7 @@
 -- `is_name` meets its contract. The invariant: what is asked of the whole name is what is asked from here on.
 -- Assumes nothing.
-use Prim.Native.Nat.{◌-◌}
-use mathlib.Core.Path.{◌≡◌, refl, sym, ◌∙◌}
+use mathlib.Core.Path.{refl, sym, ◌∙◌}
 use native.Mathlib.Omega.{arith}
-use lib.ListN.{length, drop}
-use Rattle.byte_rules.specs.Names.{is_name}
 use Rattle.byte_rules.proofs.NameLaws.{name_at_lem, name_end, name_other}
 use Rattle.byte_rules.proofs.names.is_name.Goals as goal
 

@@ -1,9 +1,6 @@
 -- `is_valid_label` meets its contract. The invariant: what is asked of the whole label is what is asked from here on.
 -- Assumes nothing.
-use Prim.Native.Nat.{◌-◌}
-use mathlib.Core.Path.{◌≡◌, refl, sym, ◌∙◌}
-use lib.ListN.{length, drop}
-use Rattle.byte_rules.specs.Names.{is_valid_label}
+use mathlib.Core.Path.{refl, sym, ◌∙◌}
 use Rattle.byte_rules.proofs.NameLaws.{valid_at, valid_end}
 use Rattle.byte_rules.proofs.names.is_valid_label.Goals as goal
 

@@ -1,10 +1,9 @@
 -- `is_valid_label` meets its contract. The invariant: what is asked of the whole label is what is asked from here on.
 -- Assumes nothing.
 use Prim.Native.Nat.{◌-◌}
-use mathlib.Core.Path.{◌≡◌, refl, sym, ◌∙◌}
+use mathlib.Core.Path.{◌≡◌}
 use lib.ListN.{length, drop}
 use Rattle.byte_rules.specs.Names.{is_valid_label}
-use Rattle.byte_rules.proofs.NameLaws.{valid_at, valid_end}
 use Rattle.byte_rules.proofs.names.is_valid_label.Given as goal
 
 abbrev pub invariant-loop-i : goal.invariant-loop-i

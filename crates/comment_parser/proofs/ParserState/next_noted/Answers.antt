@@ -19,7 +19,6 @@ pub returns-in-Refused : goal.returns-in-Refused
 unfolding next_of
 returns-in-Refused c =
     let check = c.check_state in
-    
     record {
       refuses = λ a e. record { is = ap (refused_as _) (refuses check.result check.ensures _ c.in-Refused.is a e); same = refl };
       reads = λ h. record { is = rw (next_of, ← check.ensures, c.in-Refused.is); holds = h };

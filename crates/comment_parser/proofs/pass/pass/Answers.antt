@@ -1,6 +1,6 @@
 -- `pass` meets its contract. The invariant: the scan from the run's start is the scan from here, and the note holds.
 -- Assumes nothing.
-use Prim.Native.Nat.{ℕ, ◌-◌, ◌≤◌}
+use Prim.Native.Nat.{ℕ, ◌≤◌}
 use mathlib.Core.Path.{◌≡◌, refl, sym, ◌∙◌}
 use mathlib.Core.List.{List}
 use lib.ListN.{length}
@@ -31,7 +31,6 @@ pass_act-acted-requires c = omega (arith, skip_less _ _ _ _ c.skip-p.ensures (om
 
 -- at a place where a rule was asked: the scan comes there, and what the rule says
 module _ (c : After-pass_act-acted) where
-
   abbrev text : List ℕ
   text = c.args.text.now
 

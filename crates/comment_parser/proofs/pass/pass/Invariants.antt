@@ -1,19 +1,12 @@
 -- `pass` meets its contract. The invariant: the scan from the run's start is the scan from here, and the note holds.
 -- Assumes nothing.
-use Prim.Native.Nat.{ℕ, ◌-◌, ◌≤◌}
-use mathlib.Core.Path.{◌≡◌, refl, sym, ◌∙◌}
-use mathlib.Core.List.{List}
+use Prim.Native.Nat.{◌-◌, ◌≤◌}
+use mathlib.Core.Path.{◌≡◌}
 use lib.ListN.{length}
-use native.Mathlib.Omega.{arith}
 use Rattle.scans.specs.Scan.{scan}
 use Rattle.byte_rules.specs.Reading.{named}
 use Rattle.scans.specs.Notes.{Holds}
-use Rattle.scans.specs.declared.Step.{Step}
-use Rattle.scans.proofs.Laws.{scan_end, scan_one, scan_two, scan_stop}
-use Rattle.comment_parser.specs.Rules.{pass_act}
 use Rattle.comment_parser.specs.Pass.{pass_step}
-use Rattle.comment_parser.specs.Notes.{Acts}
-use Rattle.comment_parser.proofs.Laws.{step_is, ended, ran_out, skip_less}
 use Rattle.comment_parser.proofs.pass.pass.Given as goal
 
 abbrev pub invariant-loop-p : goal.invariant-loop-p

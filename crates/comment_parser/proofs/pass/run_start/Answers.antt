@@ -5,7 +5,7 @@ use Rattle.comment_parser.proofs.pass.run_start.Goals as goal
 
 pub returns-then-st : goal.returns-then-st
 unfolding run_start
-returns-then-st c = rw (run_start, c.if-st.true) c.blanks_end.ensures
+returns-then-st c = rw (run_start, c.if-st.true) (cc)
 
 pub returns-else-st : goal.returns-else-st
 unfolding run_start

@@ -1,9 +1,7 @@
 -- `after_lf` meets its contract. The invariant: what is found from here back is what is found from the LF back.
 -- Assumes nothing.
-use Prim.Native.Nat.{◌-◌, ◌≤◌}
 use mathlib.Core.Path.{◌≡◌, refl, sym, ◌∙◌}
 use native.Mathlib.Omega.{arith}
-use Rattle.comment_parser.specs.Rules.{after_lf}
 use Rattle.comment_parser.proofs.Laws.{lf_none, lf_found, lf_back, lf_not}
 use Rattle.comment_parser.proofs.rules.after_lf.Goals as goal
 

@@ -3,7 +3,7 @@
 use Prim.Native.Nat.{ℕ, ◌+◌, ◌≤◌}
 use mathlib.Core.Path.{◌≡◌, refl, ap, sym, subst}
 use mathlib.Core.Bool.{false}
-use mathlib.Core.List.{List, [], ◌∷◌}
+use mathlib.Core.List.{List}
 use native.Mathlib.Omega.{arith}
 use lib.ListN.{length, take-append-drop}
 use Rattle.records.specs.Answer.{longest}
@@ -33,7 +33,6 @@ returns-in_default c = stops _ _ _ c.in_default.not-Event
 
 -- what is required, of the step's event
 module _ (c : After-placed-p) where
-
   ready : Ready c.args.done c.in-Event.item c.args.out.now
   ready = subst (λ (s : NextItem). ReadyFor c.args.done s c.args.out.now) c.in-Event.is c.requires
 

@@ -1,10 +1,8 @@
 -- `month_of` meets its contract. The invariant: the search from here gives what the search from the start gives.
 -- Assumes nothing.
-use mathlib.Core.Path.{◌≡◌, refl, sym, ◌∙◌}
+use mathlib.Core.Path.{◌≡◌}
 use Prim.Native.Nat.{◌≤◌, ◌-◌}
-use native.Mathlib.Omega.{arith}
 use Rattle.date.specs.Months.{month_in, month_of}
-use Rattle.date.proofs.MonthLaws.{month_found, month_next, month_none}
 use Rattle.date.proofs.reading.month_of.Given as goal
 
 abbrev pub invariant-loop-m : goal.invariant-loop-m

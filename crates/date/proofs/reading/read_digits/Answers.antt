@@ -1,20 +1,16 @@
 -- `read_digits` meets its contract. The invariant: the digits from here on continue to what those from the start give, and n has at most i digits.
 -- Assumes nothing.
-use mathlib.Core.Path.{◌≡◌, sym, ◌∙◌}
-use Prim.Native.Nat.{◌≤◌, ◌<◌, ◌-◌, ◌^◌}
+use mathlib.Core.Path.{sym, ◌∙◌}
+use Prim.Native.Nat.{◌-◌}
 use native.Mathlib.Omega.{arith}
 use lib.Dec.{lit<}
-use lib.ListN.{length, drop, get_or}
+use lib.ListN.{get_or}
 use Rattle.byte_rules.proofs.Laws.{digit_is}
-use Rattle.date.specs.Numbers.{digits_on, digits}
-use Rattle.date.proofs.NumberLaws.{on_end, on_digit, on_other, digits_none, digits_some, ten_more, ten_below}
+use Rattle.date.proofs.NumberLaws.{on_end, on_digit, on_other, digits_some, ten_more, ten_below}
 use Rattle.date.proofs.reading.read_digits.Goals as goal
 
-pub returns-then-s-eq0 : goal.returns-then-s-eq0
-returns-then-s-eq0 c = digits_none c.args.s.now c.if-s-eq0.true
-
 pub loop-i-init : goal.loop-i-init
-loop-i-init c = (omega arith, (lit< tt, digits_some c.args.s.now c.if-s-eq0.false))
+loop-i-init c = (omega arith, (lit< tt, digits_some c.args.s.now (λ none. omega arith)))
 
 pub bounds-s-i : goal.bounds-s-i
 bounds-s-i c = omega arith

@@ -1,13 +1,9 @@
 -- `read_digits` meets its contract. The invariant: the digits from here on continue to what those from the start give, and n has at most i digits.
 -- Assumes nothing.
-use mathlib.Core.Path.{◌≡◌, sym, ◌∙◌}
+use mathlib.Core.Path.{◌≡◌}
 use Prim.Native.Nat.{◌≤◌, ◌<◌, ◌-◌, ◌^◌}
-use native.Mathlib.Omega.{arith}
-use lib.Dec.{lit<}
-use lib.ListN.{length, drop, get_or}
-use Rattle.byte_rules.proofs.Laws.{digit_is}
+use lib.ListN.{length, drop}
 use Rattle.date.specs.Numbers.{digits_on, digits}
-use Rattle.date.proofs.NumberLaws.{on_end, on_digit, on_other, digits_none, digits_some, ten_more, ten_below}
 use Rattle.date.proofs.reading.read_digits.Given as goal
 
 abbrev pub invariant-loop-i : goal.invariant-loop-i

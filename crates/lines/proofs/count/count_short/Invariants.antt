@@ -1,10 +1,8 @@
 -- `count_short` meets its contract: the counter is the growth of the line since `from`, so it fits a byte.
 -- Assumes nothing.
 use Prim.Native.Nat.{◌+◌, ◌-◌, ◌≤◌}
-use mathlib.Core.Path.{◌≡◌, ap, ◌∙◌}
-use native.Mathlib.Omega.{arith}
+use mathlib.Core.Path.{◌≡◌}
 use Rattle.lines.specs.Lines.{line_of}
-use Rattle.lines.proofs.Laws.{line_step, line_grows}
 use Rattle.lines.proofs.count.count_short.Given as goal
 
 abbrev pub invariant-loop-i : goal.invariant-loop-i

@@ -1,10 +1,8 @@
 -- `lines_between` meets its contract: the counts of the parts add up to the growth of the line since `from`.
 -- Assumes nothing.
 use Prim.Native.Nat.{◌+◌, ◌-◌, ◌≤◌}
-use mathlib.Core.Path.{◌≡◌, ap, ◌∙◌}
-use native.Mathlib.Omega.{arith}
+use mathlib.Core.Path.{◌≡◌}
 use Rattle.lines.specs.Lines.{line_of}
-use Rattle.lines.proofs.Laws.{line_grows, line_cut}
 use Rattle.lines.proofs.count.lines_between.Given as goal
 
 abbrev pub invariant-loop-i : goal.invariant-loop-i

@@ -1,8 +1,7 @@
 -- `is_clear` meets its contract: as long as no LF was found, the line is the same.
 -- Assumes nothing.
-use Prim.Native.Nat.{ℕ, ◌+◌, ◌-◌, ◌≤◌}
+use Prim.Native.Nat.{ℕ, ◌+◌}
 use mathlib.Core.Path.{◌≡◌, ap, ◌∙◌}
-use mathlib.Core.Bool.{false}
 use native.Mathlib.Omega.{arith}
 use Rattle.basics.proofs.Laws.{differ}
 use Rattle.lines.specs.Lines.{line_of}

@@ -1,12 +1,9 @@
 -- `is_clear` meets its contract: as long as no LF was found, the line is the same.
 -- Assumes nothing.
-use Prim.Native.Nat.{ℕ, ◌+◌, ◌-◌, ◌≤◌}
-use mathlib.Core.Path.{◌≡◌, ap, ◌∙◌}
+use Prim.Native.Nat.{◌+◌, ◌-◌, ◌≤◌}
+use mathlib.Core.Path.{◌≡◌}
 use mathlib.Core.Bool.{false}
-use native.Mathlib.Omega.{arith}
-use Rattle.basics.proofs.Laws.{differ}
 use Rattle.lines.specs.Lines.{line_of}
-use Rattle.lines.proofs.Moving.{clear_more, not_found}
 use Rattle.lines.proofs.cursor.is_clear.Given as goal
 
 abbrev pub invariant-loop-k : goal.invariant-loop-k

@@ -1,10 +1,8 @@
 -- `line_end` meets its contract: no LF stands from `from` to where the search has come.
 -- Assumes nothing.
 use Prim.Native.Nat.{◌-◌}
-use native.Mathlib.Omega.{arith}
 use lib.ListN.{length}
 use Rattle.lines.specs.Cursor.{Clear}
-use Rattle.lines.proofs.Moving.{clear_none, clear_on, clear_step}
 use Rattle.lines.proofs.cursor.line_end.Given as goal
 
 abbrev pub invariant-loop-far : goal.invariant-loop-far

@@ -1,13 +1,8 @@
 -- `line_of` meets its contract: a line before is found by counting back, and one behind by going from line to line.
 -- Assumes nothing.
 use Prim.Native.Nat.{◌-◌, ◌≤◌}
-use mathlib.Core.Path.{◌≡◌}
-use native.Mathlib.Omega.{arith}
 use lib.ListN.{length}
-use Rattle.lines.specs.Lines.{line_of}
 use Rattle.lines.specs.Cursor.{IsLine}
-use Rattle.lines.proofs.Laws.{line_grows, line_most}
-use Rattle.lines.proofs.Moving.{next_line, in_line, in_last}
 use Rattle.lines.proofs.cursor.line_of.Given as goal
 
 abbrev pub invariant-loop-here : goal.invariant-loop-here

@@ -1,6 +1,5 @@
 -- `name_table::checking::end_of` meets its contract: past the last entry the end is 0.
 -- Assumes nothing.
-use native.Mathlib.Omega.{arith}
 use Rattle.name_table.proofs.TableLaws.{end_past}
 use Rattle.name_table.proofs.checking.end_of.Goals as goal
 

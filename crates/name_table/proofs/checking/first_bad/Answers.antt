@@ -1,10 +1,7 @@
 -- `name_table::checking::first_bad` meets its contract. The loop's invariant: the check from entry i on is the check of the table.
 -- Assumes nothing.
-use Prim.Native.Nat.{◌-◌, ◌≤◌}
-use mathlib.Core.Path.{◌≡◌, sym, ◌∙◌}
+use mathlib.Core.Path.{sym, ◌∙◌}
 use native.Mathlib.Omega.{arith}
-use lib.ListN.{length}
-use Rattle.name_table.specs.Table.{bad_from, first_bad}
 use Rattle.name_table.proofs.TableLaws.{check_starts, check_stops, check_goes, check_ends, check_gap}
 use Rattle.name_table.proofs.checking.first_bad.Goals as goal
 

@@ -1,13 +1,9 @@
 -- `name_table::ordering::order_of` meets its contract. The loop's invariant: the order of what is left of both names is their order.
 -- Assumes nothing.
 use Prim.Native.Nat.{◌-◌}
-use mathlib.Core.Path.{◌≡◌, refl, sym, ◌∙◌}
-use native.Mathlib.Omega.{arith}
-use lib.ListN.{drop, get_or}
+use mathlib.Core.Path.{◌≡◌}
+use lib.ListN.{drop}
 use Rattle.name_table.specs.Order.{order_of}
-use Rattle.name_table.specs.Spelling.{spelled, step_of}
-use Rattle.name_table.specs.declared.Spelling.TheVariants.{Plain}
-use Rattle.name_table.proofs.SpellingLaws.{compare_short, compare_lower, compare_higher, compare_equal, compare_longer, compare_over}
 use Rattle.name_table.proofs.ordering.order_of.Given as goal
 
 abbrev pub invariant-loop-k : goal.invariant-loop-k

@@ -1,11 +1,8 @@
 -- `name_table::ordering::order_spelled` meets its contract. The loop's invariant: the order of what is left of both names is their order.
 -- Assumes nothing.
-use Prim.Native.Nat.{◌-◌}
 use mathlib.Core.Path.{◌≡◌, refl, sym, ◌∙◌}
 use native.Mathlib.Omega.{arith}
-use lib.ListN.{length, drop, get_or}
-use Rattle.name_table.specs.Order.{order_of}
-use Rattle.name_table.specs.Spelling.{spelled}
+use lib.ListN.{get_or}
 use Rattle.name_table.proofs.SpellingLaws.{step_some, step_within, compare_short, compare_lower, compare_higher, compare_equal, compare_longer, compare_over}
 use Rattle.name_table.proofs.ordering.order_spelled.Goals as goal
 

@@ -1,12 +1,10 @@
 -- `name_table::ordering::order_spelled` meets its contract. The loop's invariant: the order of what is left of both names is their order.
 -- Assumes nothing.
 use Prim.Native.Nat.{◌-◌}
-use mathlib.Core.Path.{◌≡◌, refl, sym, ◌∙◌}
-use native.Mathlib.Omega.{arith}
-use lib.ListN.{length, drop, get_or}
+use mathlib.Core.Path.{◌≡◌}
+use lib.ListN.{length, drop}
 use Rattle.name_table.specs.Order.{order_of}
 use Rattle.name_table.specs.Spelling.{spelled}
-use Rattle.name_table.proofs.SpellingLaws.{step_some, step_within, compare_short, compare_lower, compare_higher, compare_equal, compare_longer, compare_over}
 use Rattle.name_table.proofs.ordering.order_spelled.Given as goal
 
 abbrev pub invariant-loop-i : goal.invariant-loop-i

@@ -1,10 +1,8 @@
 -- `name_table::ordering::plainly` meets its contract. The loop's invariant: up to here the text spells itself.
 -- Assumes nothing.
-use Prim.Native.Nat.{◌-◌}
 use mathlib.Core.Path.{refl}
 use native.Mathlib.Omega.{arith}
-use lib.ListN.{length}
-use Rattle.name_table.proofs.SpellingLaws.{PlainTo, plain_on, plain_ends}
+use Rattle.name_table.proofs.SpellingLaws.{plain_on, plain_ends}
 use Rattle.name_table.proofs.ordering.plainly.Goals as goal
 
 pub loop-i-init : goal.loop-i-init

@@ -1,10 +1,8 @@
 -- `name_table::ordering::plainly` meets its contract. The loop's invariant: up to here the text spells itself.
 -- Assumes nothing.
 use Prim.Native.Nat.{◌-◌}
-use mathlib.Core.Path.{refl}
-use native.Mathlib.Omega.{arith}
 use lib.ListN.{length}
-use Rattle.name_table.proofs.SpellingLaws.{PlainTo, plain_on, plain_ends}
+use Rattle.name_table.proofs.SpellingLaws.{PlainTo}
 use Rattle.name_table.proofs.ordering.plainly.Given as goal
 
 abbrev pub invariant-loop-i : goal.invariant-loop-i

@@ -1,13 +1,11 @@
 -- `name_table::searching::search` meets its contract. The loop's invariant: halving from lo up to hi finds what it finds in the whole table.
 -- Assumes nothing.
-use Prim.Native.Nat.{◌-◌, ◌≤◌}
 use mathlib.Core.Path.{◌≡◌, sym, ap, ◌∙◌}
 use native.Mathlib.Omega.{arith}
-use lib.ListN.{length}
 use Rattle.name_table.specs.Order.{order_of}
 use Rattle.name_table.specs.Spelling.{spelled}
 use Rattle.name_table.specs.Table.{name_at}
-use Rattle.name_table.specs.Search.{middle, halved, searched}
+use Rattle.name_table.specs.Search.{middle, searched}
 use Rattle.name_table.proofs.SearchLaws.{search_starts, search_up, search_here, search_down, search_over}
 use Rattle.name_table.proofs.searching.search.Goals as goal
 use Rattle.name_table.proofs.searching.search.Goals.{After-compare, After-plainly-how, In-loop-lo}

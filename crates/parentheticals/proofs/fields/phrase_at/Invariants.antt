@@ -1,11 +1,9 @@
 -- `fields::phrase_at` meets its contract: the phrase's rest, from here on, is the phrase from the start.
 -- Assumes nothing.
-use mathlib.Core.Path.{◌≡◌, refl, sym, ap, ◌∙◌}
+use mathlib.Core.Path.{◌≡◌}
 use Prim.Native.Nat.{◌-◌}
 use lib.ListN.{length, drop}
 use Rattle.parentheticals.specs.Fields.{phrase_at}
-use Rattle.parentheticals.specs.Inner.{place_of}
-use Rattle.parentheticals.proofs.FieldLaws.{phrase_end, phrase_next, phrase_stop}
 use Rattle.parentheticals.proofs.fields.phrase_at.Given as goal
 
 abbrev pub invariant-loop-k : goal.invariant-loop-k

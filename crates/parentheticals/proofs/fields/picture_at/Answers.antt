@@ -1,9 +1,6 @@
 -- `fields::picture_at` meets its contract: the picture's rest, from here on, is the picture from the start.
 -- Assumes nothing.
-use mathlib.Core.Path.{◌≡◌, refl, sym, ◌∙◌}
-use Prim.Native.Nat.{◌-◌}
-use lib.ListN.{length, drop}
-use Rattle.parentheticals.specs.Fields.{picture_at}
+use mathlib.Core.Path.{refl, sym, ◌∙◌}
 use Rattle.parentheticals.proofs.FieldLaws.{picture_end, picture_past, picture_next, picture_stop}
 use Rattle.parentheticals.proofs.fields.picture_at.Goals as goal
 

@@ -1,10 +1,7 @@
 -- `fields::space_end` meets its contract: the spaces from here on end where those from the start do.
 -- Assumes nothing.
-use mathlib.Core.Path.{◌≡◌, refl, sym, ◌∙◌}
-use Prim.Native.Nat.{◌-◌}
-use lib.ListN.{length}
+use mathlib.Core.Path.{refl, sym, ◌∙◌}
 use native.Mathlib.Omega.{arith}
-use Rattle.parentheticals.specs.Fields.{space_end}
 use Rattle.parentheticals.proofs.FieldLaws.{run_past, run_stop, run_more}
 use Rattle.parentheticals.proofs.fields.space_end.Goals as goal
 

@@ -1,11 +1,9 @@
 -- `fields::space_end` meets its contract: the spaces from here on end where those from the start do.
 -- Assumes nothing.
-use mathlib.Core.Path.{◌≡◌, refl, sym, ◌∙◌}
+use mathlib.Core.Path.{◌≡◌}
 use Prim.Native.Nat.{◌-◌}
 use lib.ListN.{length}
-use native.Mathlib.Omega.{arith}
 use Rattle.parentheticals.specs.Fields.{space_end}
-use Rattle.parentheticals.proofs.FieldLaws.{run_past, run_stop, run_more}
 use Rattle.parentheticals.proofs.fields.space_end.Given as goal
 
 abbrev pub invariant-loop-i : goal.invariant-loop-i

@@ -1,13 +1,11 @@
 -- `flags::stands_in` meets its contract: the notice stands from here on where it stands from the start.
 -- Assumes nothing.
-use mathlib.Core.Path.{◌≡◌, refl, sym, ap, ◌∙◌}
+use mathlib.Core.Path.{◌≡◌}
 use Prim.Native.Nat.{◌-◌}
 use mathlib.Core.List.{◌∷◌}
 use lib.ListN.{length}
 use Rattle.scans.specs.Marks.{lparen}
-use Rattle.parentheticals.specs.Inner.{place_of}
 use Rattle.parentheticals.specs.Matching.{stands_in}
-use Rattle.parentheticals.proofs.Candidates.{stands_none, stands_miss, stands_hit}
 use Rattle.parentheticals.proofs.flags.stands_in.Given as goal
 
 abbrev pub invariant-loop-i : goal.invariant-loop-i

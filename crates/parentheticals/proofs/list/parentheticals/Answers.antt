@@ -4,7 +4,7 @@
 use mathlib.Core.Path.{◌≡◌, refl, sym, ap, ◌∙◌}
 use mathlib.Core.List.{List, [], ◌∷◌}
 use mathlib.Core.Option.{none, some}
-use Prim.Native.Nat.{ℕ, ◌+◌, ◌-◌, ◌≤◌}
+use Prim.Native.Nat.{ℕ, ◌+◌, ◌≤◌}
 use native.Mathlib.Omega.{arith}
 use lib.ListN.{length, take}
 use lib.Seq.{length-take-le}
@@ -17,7 +17,7 @@ use Rattle.parentheticals.specs.Inner.{found_of}
 use Rattle.parentheticals.specs.Records.{record_of, record_width, records_of}
 use Rattle.parentheticals.specs.declared.Found.{Found}
 use Rattle.parentheticals.proofs.Lies.{Lies, next_lies}
-use Rattle.parentheticals.proofs.Listing.{lies_words, records_from, records_end, records_more, Going}
+use Rattle.parentheticals.proofs.Listing.{lies_words, records_from, records_end, records_more}
 use Rattle.records.proofs.Answers.{span_accepted}
 use Rattle.parentheticals.proofs.list.parentheticals.Goals as goal
 use Rattle.parentheticals.proofs.list.parentheticals.Goals.{After-lay_found-wrote, At-loop-found, In-Hit, In_default-next_match}

@@ -3,7 +3,7 @@
 -- matched nothing.
 -- Assumes nothing.
 use mathlib.Core.Path.{◌≡◌, refl, sym, ap, ◌∙◌}
-use Prim.Native.Nat.{ℕ, ◌+◌, ◌-◌, ◌≤◌, ◌<◌}
+use Prim.Native.Nat.{ℕ, ◌+◌, ◌<◌}
 use mathlib.Core.Bool.{Bool}
 use mathlib.Core.List.{List}
 use mathlib.Core.Option.{none, some}
@@ -18,7 +18,7 @@ use Rattle.parentheticals.specs.Fields.{author_end}
 use Rattle.parentheticals.specs.Matching.{head_at, notice_at, rest_at, next_from}
 use Rattle.parentheticals.specs.Inner.{head_of, tail_of}
 use Rattle.parentheticals.proofs.Inside.{Begins}
-use Rattle.parentheticals.proofs.Authors.{Way, len_fits, way_starts, way_on, author_comma, author_stop}
+use Rattle.parentheticals.proofs.Authors.{len_fits, way_starts, way_on, author_comma, author_stop}
 use Rattle.parentheticals.proofs.Candidates.{Barren, barren_none, barren_way, rest_open, rest_tail}
 use Rattle.parentheticals.proofs.Candidates.{no_opening, is_notice, no_head, no_rest, is_credit, next_none, next_miss, next_hit}
 use Rattle.parentheticals.proofs.Lies.{head_begins}

@@ -1,9 +1,6 @@
 -- `matching::to_opening` meets its contract: no byte that it steps over opens anything.
 -- Assumes nothing.
-use Prim.Native.Nat.{◌-◌}
 use native.Mathlib.Omega.{arith}
-use lib.ListN.{length}
-use Rattle.parentheticals.specs.Inner.{Passed}
 use Rattle.parentheticals.proofs.Candidates.{passed_starts, passed_one, passed_eight}
 use Rattle.parentheticals.proofs.matching.to_opening.Goals as goal
 

@@ -1,10 +1,8 @@
 -- `matching::to_opening` meets its contract: no byte that it steps over opens anything.
 -- Assumes nothing.
 use Prim.Native.Nat.{◌-◌}
-use native.Mathlib.Omega.{arith}
 use lib.ListN.{length}
 use Rattle.parentheticals.specs.Inner.{Passed}
-use Rattle.parentheticals.proofs.Candidates.{passed_starts, passed_one, passed_eight}
 use Rattle.parentheticals.proofs.matching.to_opening.Given as goal
 
 abbrev pub invariant-loop-i : goal.invariant-loop-i

@@ -1,11 +1,7 @@
 -- `label_end` meets its contract. The invariant: a label from here ends where the label from the start does, if the note holds.
 -- Assumes nothing.
-use Prim.Native.Nat.{◌-◌, ◌≤◌}
-use mathlib.Core.Path.{◌≡◌, refl, sym, ◌∙◌}
-use lib.ListN.{length}
+use mathlib.Core.Path.{refl, sym, ◌∙◌}
 use native.Mathlib.Omega.{arith}
-use Rattle.scans.specs.Ends.{label_end}
-use Rattle.scans.specs.Notes.{Holds}
 use Rattle.scans.proofs.Laws.{scan_end, scan_one, scan_two, scan_stop}
 use Rattle.scans.proofs.PlainLaws.{label_one}
 use Rattle.scans.proofs.labels.label_end.Goals as goal

@@ -1,13 +1,10 @@
 -- `label_end` meets its contract. The invariant: a label from here ends where the label from the start does, if the note holds.
 -- Assumes nothing.
 use Prim.Native.Nat.{◌-◌, ◌≤◌}
-use mathlib.Core.Path.{◌≡◌, refl, sym, ◌∙◌}
+use mathlib.Core.Path.{◌≡◌}
 use lib.ListN.{length}
-use native.Mathlib.Omega.{arith}
 use Rattle.scans.specs.Ends.{label_end}
 use Rattle.scans.specs.Notes.{Holds}
-use Rattle.scans.proofs.Laws.{scan_end, scan_one, scan_two, scan_stop}
-use Rattle.scans.proofs.PlainLaws.{label_one}
 use Rattle.scans.proofs.labels.label_end.Given as goal
 
 abbrev pub invariant-loop-i : goal.invariant-loop-i

@@ -1,10 +1,6 @@
 -- `byte_in_8` meets its contract. The invariant: where the byte was not met, it is none of those so far.
 -- Assumes nothing.
-use Prim.Native.Nat.{◌-◌, ◌≤◌}
-use mathlib.Core.Path.{◌≡◌}
-use mathlib.Core.Bool.{false}
 use native.Mathlib.Omega.{arith}
-use Rattle.scans.specs.Plain.{Lacks}
 use Rattle.scans.proofs.PlainLaws.{lacks_more}
 use Rattle.scans.proofs.plain.byte_in_8.Goals as goal
 

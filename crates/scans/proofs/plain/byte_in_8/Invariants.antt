@@ -3,9 +3,7 @@
 use Prim.Native.Nat.{◌-◌, ◌≤◌}
 use mathlib.Core.Path.{◌≡◌}
 use mathlib.Core.Bool.{false}
-use native.Mathlib.Omega.{arith}
 use Rattle.scans.specs.Plain.{Lacks}
-use Rattle.scans.proofs.PlainLaws.{lacks_more}
 use Rattle.scans.proofs.plain.byte_in_8.Given as goal
 
 abbrev pub invariant-loop-k : goal.invariant-loop-k

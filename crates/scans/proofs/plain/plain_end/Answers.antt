@@ -1,10 +1,7 @@
 -- `plain_end` meets its contract. The invariant of both loops: the scan from here ends where the scan from the start does.
 -- Assumes nothing.
-use Prim.Native.Nat.{◌-◌}
-use mathlib.Core.Path.{◌≡◌, refl, sym, ◌∙◌}
-use lib.ListN.{length}
+use mathlib.Core.Path.{refl, sym, ◌∙◌}
 use native.Mathlib.Omega.{arith}
-use Rattle.scans.specs.Plain.{plain_end}
 use Rattle.scans.proofs.Laws.{scan_end, scan_one, scan_stop}
 use Rattle.scans.proofs.PlainLaws.{over_8, active_not, plain_one, active_stop}
 use Rattle.scans.proofs.plain.plain_end.Goals as goal

@@ -32,7 +32,6 @@ returns-in-Refused c = let s = c in let both = given_refused _ _ diag_width _ _ 
 
 -- the span is not refused
 module _ (c : In_default) where
-
   span_good : none ≡ span_refusal (length c.args.buf.now) c.args.start c.args.end
   span_good = rw c.in_default.is at c.check_span.ensures
 

@@ -14,7 +14,6 @@ returns-in-Refused c = the_one _ _ (rw c.in-Refused.is at c.check_table.ensures)
 
 -- the first table is not refused
 module _ (c : In_default) where
-
   symbols_good : none ≡ table_refusal 1 c.args.sb.now c.args.se.now
   symbols_good = rw c.in_default.is at c.check_table.ensures
 

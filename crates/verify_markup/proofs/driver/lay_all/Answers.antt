@@ -6,7 +6,6 @@ use native.Mathlib.Omega.{arith}
 use lib.ListN.{length}
 use Rattle.byte_rules.specs.Reading.{Reading, named}
 use Rattle.records.proofs.Laying.{back}
-use Rattle.comment_parser.specs.Events.{left}
 use Rattle.comment_parser.specs.Notes.{NextBy}
 use Rattle.comment_parser.specs.declared.ParserState.{ParserState}
 use Rattle.comment_parser.proofs.Along.{within_says, along_end, along_less, along_inside}

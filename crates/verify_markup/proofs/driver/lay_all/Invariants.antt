@@ -1,19 +1,9 @@
 -- `driver::lay_all` meets its contract. The invariant of its loop is `Going`: the diagnostics from here on, laid in the tail, are those of the span, laid in the room as it was.
 -- Assumes nothing.
-use Prim.Native.Nat.{◌+◌, ◌≤◌}
-use mathlib.Core.Path.{◌≡◌, ap}
-use native.Mathlib.Omega.{arith}
-use lib.ListN.{length}
-use Rattle.byte_rules.specs.Reading.{Reading, named}
-use Rattle.records.proofs.Laying.{back}
+use Rattle.byte_rules.specs.Reading.{named}
 use Rattle.comment_parser.specs.Events.{left}
-use Rattle.comment_parser.specs.Notes.{NextBy}
-use Rattle.comment_parser.specs.declared.ParserState.{ParserState}
-use Rattle.comment_parser.proofs.Along.{within_says, along_end, along_less, along_inside}
-use Rattle.verify_markup.specs.List.{modes_after}
 use Rattle.verify_markup.specs.Lent.{lent_names}
-use Rattle.verify_markup.proofs.DiagLaws.{did_count}
-use Rattle.verify_markup.proofs.ListLaws.{Going, few_last, going_starts, going_on, going_ends, last_laid}
+use Rattle.verify_markup.proofs.ListLaws.{Going}
 use Rattle.verify_markup.proofs.driver.lay_all.Given as goal
 
 abbrev pub invariant-loop-after : goal.invariant-loop-after

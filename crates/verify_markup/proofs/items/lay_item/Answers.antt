@@ -1,6 +1,5 @@
 -- `items::lay_item` meets its contract, event by event; the events of the last arm give nothing.
 -- Assumes nothing.
-use mathlib.Core.Path.{refl}
 use native.Mathlib.Omega.{arith}
 use Rattle.records.specs.Records.{laid, used}
 use Rattle.verify_markup.specs.Lent.{lent_names}

@@ -1,15 +1,9 @@
 -- `texts::first_html` meets its contract. The loop's invariant: the first mark from i on is the first of all.
 -- Assumes nothing.
-use Prim.Native.Nat.{◌+◌, ◌-◌, ◌≤◌}
-use mathlib.Core.Path.{◌≡◌, sym, ◌∙◌}
-use native.Mathlib.Nat.{le_refl}
-use native.Mathlib.Omega.{arith}
+use Prim.Native.Nat.{◌-◌, ◌≤◌}
+use mathlib.Core.Path.{◌≡◌}
 use lib.ListN.{length}
-use Rattle.scans.specs.Plain.{plain_step}
-use Rattle.scans.proofs.Laws.{scan_le, scan_ge}
 use Rattle.verify_markup.specs.Texts.{html_from}
-use Rattle.verify_markup.proofs.TextLaws.{len_within, html_here, html_on, html_over}
-use Rattle.verify_markup.proofs.PlainTexts.{html_skip}
 use Rattle.verify_markup.proofs.texts.first_html.Given as goal
 
 abbrev pub invariant-loop-i : goal.invariant-loop-i

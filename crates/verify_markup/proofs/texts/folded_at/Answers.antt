@@ -1,10 +1,8 @@
 -- `texts::folded_at` meets its contract. The loop's invariant: the word from its byte k on stands at i + k as the word stands at i.
 -- Assumes nothing.
-use Prim.Native.Nat.{◌+◌, ◌-◌, ◌≤◌}
+use Prim.Native.Nat.{◌+◌}
 use mathlib.Core.Path.{◌≡◌, sym, ◌∙◌}
 use native.Mathlib.Omega.{arith}
-use lib.ListN.{length, drop}
-use Rattle.verify_markup.specs.Texts.{folded_at}
 use Rattle.verify_markup.proofs.TextLaws.{folded_ends, folded_past, folded_differs, folded_on}
 use Rattle.verify_markup.proofs.texts.folded_at.Goals as goal
 

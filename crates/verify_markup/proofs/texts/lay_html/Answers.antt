@@ -23,7 +23,6 @@ of_mark n e a b = rw e (a, b)
 
 -- the mark that was found
 module _ (c : After-first_html-mark) where
-
   mark_is : c.first_html-mark.result ≡ html_from (take c.args.end c.args.buf.now) (c.args.end - c.args.start) c.args.start
   mark_is = c.first_html-mark.ensures ∙ rw (length-take-le c.args.end c.args.buf.now c.requires.inside)
 
