@@ -106,7 +106,7 @@ fn argument_count<E: Env>(env: &E) -> usize {
     usize::MAX
 }
 
-// The room for the argument has one byte more than `--strict`, so that a longer one is told from it. Of one that is longer still nothing is put there.
+// The room for the argument has one byte more than `--strict`, so that a longer one is told from it. Of one that has no room no byte is looked at.
 fn main(rt: HostRuntime) {
     let mut first = [0u8; 9];
     let length = rt.arg(1, &mut first).unwrap_or(0);
