@@ -1,4 +1,4 @@
--- The lines of the events from a state on: an event's line and those after it (lines-on), and the end (lines_end); and the number of the line that is
+-- The lines of the events from a state on: an event's line and those after it (lines_on), and the end (lines_end); and the number of the line that is
 -- carried along.
 -- Assumes nothing.
 use mathlib.Core.Path.{◌≡◌, sym}

@@ -1,7 +1,7 @@
 -- The laws of gathered output:
---     push-room, push-full, push-none    one byte: there is room for it, the buffer is full, the buffer has no bytes
---     gathered-then, gather-both         a text behind another
---     gather-on, gather-end              a loop that gathers piece by piece: a turn, and the end
+--     push_room, push_full, push_none    one byte: there is room for it, the buffer is full, the buffer has no bytes
+--     gathered_then, gather_both         a text behind another
+--     gather_on, gather_end              a loop that gathers piece by piece: a turn, and the end
 --     in_order                           nothing is lost, and nothing changes its place
 -- Assumes nothing.
 use Prim.Native.Nat.{ℕ, zero, suc, ◌+◌, ◌≤◌, ◌<◌}

@@ -1,5 +1,5 @@
 -- The first of the numbers that are left: with its tab (fields_at), and with what parts it from the next (rows_at); a column is no
--- further along than the numbers (column-small).
+-- further along than the numbers (column_small).
 -- Assumes nothing.
 use Prim.Native.Nat.{ℕ, ◌+◌, ◌≤◌, ◌<◌}
 use mathlib.Core.Path.{◌≡◌}

@@ -1,4 +1,4 @@
--- The room of a text call, filled with its pattern: a turn (pattern-step), its length (pattern-long), and the end (pattern-all).
+-- The room of a text call, filled with its pattern: a turn (pattern_step), its length (pattern_long), and the end (pattern_all).
 -- Assumes nothing.
 use Prim.Native.Nat.{ℕ, zero, suc, ◌+◌, ◌%◌, ◌≤◌, ◌<◌}
 use mathlib.Core.Path.{◌≡◌, refl, sym, ◌∙◌}

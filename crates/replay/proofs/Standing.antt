@@ -1,4 +1,4 @@
--- Spots of tables: nowhere stands none (stands-nowhere), and a table that stands does so in its spot (stands_of).
+-- Spots of tables: nowhere stands none (stands_nowhere), and a table that stands does so in its spot (stands_of).
 -- Assumes nothing.
 use mathlib.Core.Path.{◌≡◌}
 use Rattle.basics.proofs.Laws.{differ}
