@@ -1,4 +1,5 @@
 """page: the text of RESULTS.md from what was counted."""
+import re
 
 # The calls that are counted beside the Rust: what each is called here, its op and flag.
 CALLS = [("events", "E", 0), ("parentheticals", "P", 0), ("unescape, Text", "U", 0), ("unescape, Text in HTML", "U", 1),
@@ -72,7 +73,7 @@ def rust_of(text):
     square = next(line for line in text.splitlines() if line.startswith("The Rust's events on the first: "))
     return {"rows": {(op, flag): float(first[call]) for call, op, flag in CALLS},
             "square": int(square.split(": ")[1].rstrip(".").replace(",", "")),
-            "line": next(line for line in text.splitlines() if line.startswith("The Rust was counted on "))}
+            "line": re.search(r"^The Rust was counted on .*?, on x86-64\.", text, re.M)[0]}
 
 
 def set_mm(facts):
@@ -181,7 +182,7 @@ def written(facts):
 
 Written by `{facts['command']}` on {facts['date']}, with qemu {facts['qemu']}, on {facts['machine']}. Executed x86-64 instructions, counted by qemu-user with `count.c`: exact, and the same at each run and on each machine
 (but the Rust's check: its tables are hashed with a random key, and its counts move by some thousand).
-{facts['rust']}
+{facts['rust']} The library was proved and compiled with the kit `{facts['kit']}`.
 
 ## All comments of set.mm
 
