@@ -28,7 +28,8 @@ refusal s = span_refusal (length s.args.buf.now) s.args.start s.args.end
 pub returns-in-Refused : goal.returns-in-Refused
 returns-in-Refused c =
     let why = ap checked_answer (sym c.in-Refused.is) ∙ c.check_span.ensures in
-    let room = c.args.out.now in record { answer = (given_refused _ _ event_width _ room why).0; left = (given_refused _ _ event_width _ room why).1 }
+    let both = given_refused _ _ event_width _ c.args.out.now why in
+    record { answer = both.0; left = both.1 }
 
 good : (c : In_default) → none ≡ refusal (goal.at.In_default c).Start
 good c = ap checked_answer (sym c.in_default.is) ∙ c.check_span.ensures
@@ -40,9 +41,8 @@ loop-after-init c =
     rw (c.new-st.ensures, ← records_start a.reading a.buf.now a.start a.end)
     (going_starts a.reading event_width a.buf.now (placed_from (named a.reading) a.buf.now) a.start a.end a.out.now c.nothing-note.result c.nothing-note.ensures.1 (record { short = fits.0; inside = fits.1; fits = fits.2 }))
 
--- the function's entry, seen from the loop's head
 -- what the answer to the state at the loop's head tells, since that is accepted
-says : (c : After-next_within-noted) → let l = c in NextBy l.args.buf.now l.loop-after.st l.loop-after.note c.next_within-noted.result
+says : (c : After-next_within-noted) → NextBy c.args.buf.now c.loop-after.st c.loop-after.note c.next_within-noted.result
 says c = within_says c.loop-after.invariant.accepted c.next_within-noted.ensures
 
 -- the reading that the first state names is the one that was asked for
@@ -54,14 +54,12 @@ is_asked l = ap (λ (st : ParserState). named st.reading) l.new-st.ensures
 
 pub offset_bounds-out-at : goal.offset_bounds-out-at
 offset_bounds-out-at c =
-    let l = c in
-    omega (arith, l.loop-after.invariant.laying.inside, l.loop-after.invariant.laying.long, l.well_formed)
+    omega (arith, c.loop-after.invariant.laying.inside, c.loop-after.invariant.laying.long, c.well_formed)
 
 pub lay_event-wrote-requires : goal.lay_event-wrote-requires
 lay_event-wrote-requires c =
-    let event = c in
     let call = (goal.at.lay_event-wrote-requires c).After-next_within-noted in
-    along_within call.loop-after.invariant.along (says call) event.in-Event.is
+    along_within call.loop-after.invariant.along (says call) c.in-Event.is
 
 -- a turn, seen from the place behind the record
 module _ (c : After-lay_event-wrote) where
@@ -103,9 +101,8 @@ loop-after-preserved c = (turned (goal.at.loop-after-preserved c).After-lay_even
 
 -- the end: no record is to come
 none_to_come : (c : In_default-next)
-    → let l = c in
-    let a = l.args in
-    Laying event_width (placed_records (named a.reading) a.buf.now a.start a.end) [] a.out.now l.loop-after.out l.loop-after.at l.loop-after.n
+    → let a = c.args in
+    Laying event_width (placed_records (named a.reading) a.buf.now a.start a.end) [] a.out.now c.loop-after.out c.loop-after.at c.loop-after.n
 none_to_come c =
     let call = (goal.at.In_default-next c).After-next_within-noted in
     let inv = call.loop-after.invariant in
@@ -133,8 +130,12 @@ module _ (c : After-fill_lines) where
 
 pub returns-then-n-out : goal.returns-then-n-out
 returns-then-n-out c =
-    let f = (goal.at.returns-then-n-out c).After-fill_lines in let both = listed_done event_width _ _ (counted f) (lined f) _ (accepted f) (omega (arith, (last f).loop-after.invariant.laying.long)) in record { answer = both.0; left = both.1 }
+    let f = (goal.at.returns-then-n-out c).After-fill_lines in
+    let both = listed_done event_width _ _ (counted f) (lined f) _ (accepted f) (omega (arith, (last f).loop-after.invariant.laying.long)) in
+    record { answer = both.0; left = both.1 }
 
 pub returns-else-n-out : goal.returns-else-n-out
 returns-else-n-out c =
-    let f = (goal.at.returns-else-n-out c).After-fill_lines in let both = listed_short event_width _ _ (counted f) (lined f) _ (accepted f) (omega (arith, (last f).loop-after.invariant.laying.long)) in record { answer = both.0; left = both.1 }
+    let f = (goal.at.returns-else-n-out c).After-fill_lines in
+    let both = listed_short event_width _ _ (counted f) (lined f) _ (accepted f) (omega (arith, (last f).loop-after.invariant.laying.long)) in
+    record { answer = both.0; left = both.1 }

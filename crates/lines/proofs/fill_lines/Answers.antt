@@ -17,26 +17,23 @@ use Rattle.lines.proofs.fill_lines.Goals.{then-place-line, else-place-line, Afte
 
 pub returns-then-left-eq0 : goal.returns-then-left-eq0
 returns-then-left-eq0 c =
-    let l = c in
-    let a = l.args in
-    fills_none a.buf.now a.n a.room.now l.least-left.result (omega arith) (λ h. omega arith) c.if-left-eq0.true
+    let a = c.args in
+    fills_none a.buf.now a.n a.room.now c.least-left.result (omega arith) (λ h. omega arith) c.if-left-eq0.true
 
 pub line_end-requires : goal.line_end-requires
 line_end-requires c = omega arith
 
 pub loop-left-init : goal.loop-left-init
 loop-left-init c =
-    let l = c in
-    let a = l.args in
-    fills_starts a.buf.now a.n a.room.now l.least-left.result (omega arith) (λ h. omega arith) (omega arith)
+    let a = c.args in
+    fills_starts a.buf.now a.n a.room.now c.least-left.result (omega arith) (λ h. omega arith) (omega arith)
     (record { from = 0; to = c.line_end.result; number = 1 }) (record { number = sym (line_start a.buf.now); to_end = c.line_end.ensures })
 
--- the function's entry, seen from the loop's head
 pub overflow_add-place : goal.overflow_add-place
-overflow_add-place c = let l = c in omega (arith, l.loop-left.invariant.inside, l.loop-left.invariant.long, l.well_formed)
+overflow_add-place c = omega (arith, c.loop-left.invariant.inside, c.loop-left.invariant.long, c.well_formed)
 
 pub offset_bounds-room-at : goal.offset_bounds-room-at
-offset_bounds-room-at c = let l = c in omega (arith, l.loop-left.invariant.inside, l.loop-left.invariant.long, l.well_formed)
+offset_bounds-room-at c = omega (arith, c.loop-left.invariant.inside, c.loop-left.invariant.long, c.well_formed)
 
 pub bounds-room-at : goal.bounds-room-at
 bounds-room-at c = omega (arith, c.loop-left.invariant.inside)

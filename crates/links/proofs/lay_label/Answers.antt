@@ -21,17 +21,14 @@ found c k is = let a = c.args in label_by a.buf.now a.lb.now a.le.now a.start a.
 
 pub overflow_cast-entry : goal.overflow_cast-entry
 overflow_cast-entry c =
-    let e = c in
-    let s = c in
-    let a = s.args in
-    let k = e.in-At.entry in
+    let a = c.args in
+    let k = c.in-At.entry in
     let name = spelled (Escaped escape.Label) (part a.buf.now a.start a.end) in
-    omega (arith, searched_end a.lb.now a.le.now 1 s.requires.3 name k (sym s.search.ensures ∙ e.in-At.is), s.shared_slice_known-3-1.given k)
+    omega (arith, searched_end a.lb.now a.le.now 1 c.requires.3 name k (sym c.search.ensures ∙ c.in-At.is), c.shared_slice_known-3-1.given k)
 
 pub returns-in-At : goal.returns-in-At
 returns-in-At c =
-    let l = c in
-    let e = (goal.at.returns-in-At c).In-At in record { wrote = rw (← found (goal.at.returns-in-At c).After-search _ e.in-At.is) l.lay.ensures.wrote; left = rw (← found (goal.at.returns-in-At c).After-search _ e.in-At.is) l.lay.ensures.left }
+    record { wrote = rw (← found (goal.at.returns-in-At c).After-search _ c.in-At.is) c.lay.ensures.wrote; left = rw (← found (goal.at.returns-in-At c).After-search _ c.in-At.is) c.lay.ensures.left }
 
 pub returns-in-Nothing : goal.returns-in-Nothing
 unfolding laid used

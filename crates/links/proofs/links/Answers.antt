@@ -25,9 +25,10 @@ use Rattle.links.proofs.links.Goals.{After-check_table, After-lay_item-wrote, Af
 pub returns-in-Refused : goal.returns-in-Refused
 unfolding links_refusal
 returns-in-Refused c =
-    let s = c in
-    let a = s.args in
-    let why = ap checked_answer (sym c.in-Refused.is) ∙ s.check_span.ensures in let both = given_refused _ _ link_width _ a.out.now (the_one _ _ why) in record { answer = both.0; left = both.1 }
+    let a = c.args in
+    let why = ap checked_answer (sym c.in-Refused.is) ∙ c.check_span.ensures in
+    let both = given_refused _ _ link_width _ a.out.now (the_one _ _ why) in
+    record { answer = both.0; left = both.1 }
 
 -- the span is not refused
 module _ (c : In_default) where
@@ -37,9 +38,10 @@ module _ (c : In_default) where
 pub returns-in-Refused-check_table : goal.returns-in-Refused-check_table
 unfolding links_refusal
 returns-in-Refused-check_table c =
-    let t = (goal.at.returns-in-Refused-check_table c).After-check_table in
-    let a = t.args in
-    let why = ap checked_answer (sym c.in-Refused-check_table.is) ∙ t.check_table.ensures in let both = given_refused _ _ link_width _ a.out.now (why ∙ the_other _ (span_good (goal.at.returns-in-Refused-check_table c).In_default)) in record { answer = both.0; left = both.1 }
+    let a = c.args in
+    let why = ap checked_answer (sym c.in-Refused-check_table.is) ∙ c.check_table.ensures in
+    let both = given_refused _ _ link_width _ a.out.now (why ∙ the_other _ (span_good (goal.at.returns-in-Refused-check_table c).In_default)) in
+    record { answer = both.0; left = both.1 }
 
 -- nor is the table
 module _ (c : In_default-check_table) where
@@ -80,15 +82,13 @@ is_asked l = ap (λ (st : ParserState). named st.reading) l.new-st.ensures
 
 pub offset_bounds-out-at : goal.offset_bounds-out-at
 offset_bounds-out-at c =
-    let l = (goal.at.offset_bounds-out-at c).At-loop-after in
-    omega (arith, l.loop-after.invariant.laying.inside, l.loop-after.invariant.laying.long, l.well_formed)
+    omega (arith, c.loop-after.invariant.laying.inside, c.loop-after.invariant.laying.long, c.well_formed)
 
 pub lay_item-wrote-requires : goal.lay_item-wrote-requires
 lay_item-wrote-requires c =
-    let e = c in
     let k = (goal.at.lay_item-wrote-requires c).After-next_within-noted in
     let t = checked (goal.at.lay_item-wrote-requires c).At-loop-after in
-    ((fits t).0, along_inside k.loop-after.invariant.along (says k) e.in-Event.is, table_good t)
+    ((fits t).0, along_inside k.loop-after.invariant.along (says k) c.in-Event.is, table_good t)
 
 -- a turn, seen from the place behind what the event gave
 module _ (c : After-lay_item-wrote) where
@@ -139,7 +139,11 @@ none_to_come c =
     rw (is_asked (goal.at.In_default-next c).At-loop-after) at (going_ends (links_given _ _ _ _) inv (along_end inv.along (says call) c.in_default-next.not-Event))
 
 pub returns-then-n-out : goal.returns-then-n-out
-returns-then-n-out c = let both = given_done (none_to_come (goal.at.returns-then-n-out c).In_default-next) _ (good (checked (goal.at.returns-then-n-out c).At-loop-after)) (omega arith) in record { answer = both.0; left = both.1 }
+returns-then-n-out c =
+    let both = given_done (none_to_come (goal.at.returns-then-n-out c).In_default-next) _ (good (checked (goal.at.returns-then-n-out c).At-loop-after)) (omega arith) in
+    record { answer = both.0; left = both.1 }
 
 pub returns-else-n-out : goal.returns-else-n-out
-returns-else-n-out c = let both = given_short (none_to_come (goal.at.returns-else-n-out c).In_default-next) _ (good (checked (goal.at.returns-else-n-out c).At-loop-after)) (omega arith) in record { answer = both.0; left = both.1 }
+returns-else-n-out c =
+    let both = given_short (none_to_come (goal.at.returns-else-n-out c).In_default-next) _ (good (checked (goal.at.returns-else-n-out c).At-loop-after)) (omega arith) in
+    record { answer = both.0; left = both.1 }

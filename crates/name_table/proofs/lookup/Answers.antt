@@ -30,10 +30,8 @@ good c = rw c.in_default.is at c.check_table.ensures
 
 pub returns-in-At : goal.returns-in-At
 returns-in-At c =
-    let s = (goal.at.returns-in-At c).After-search in
-    told _ _ _ (good (goal.at.returns-in-At c).In_default) _ (sym c.in-At.is ∙ s.search.ensures)
+    told _ _ _ (good (goal.at.returns-in-At c).In_default) _ (sym c.in-At.is ∙ c.search.ensures)
 
 pub returns-in-Nothing : goal.returns-in-Nothing
 returns-in-Nothing c =
-    let s = (goal.at.returns-in-Nothing c).After-search in
-    told _ _ _ (good (goal.at.returns-in-Nothing c).In_default) _ (sym c.in-Nothing.is ∙ s.search.ensures)
+    told _ _ _ (good (goal.at.returns-in-Nothing c).In_default) _ (sym c.in-Nothing.is ∙ c.search.ensures)

@@ -26,10 +26,9 @@ loop-from-init c = writing_starts _ _ c.requires
 
 pub loop-from-2-init : goal.loop-from-2-init
 loop-from-2-init c =
-    let l = c in
-    let a = l.args in
+    let a = c.args in
     let e = c.plain_end-p.ensures in
-    (λ o w. w, e, omega (arith, e, scan_ge (plain_step a.text.now) (length a.text.now) l.loop-from.from l.loop-from.from (le_refl l.loop-from.from) (omega (arith, c.loop-from-test.true))))
+    (λ o w. w, e, omega (arith, e, scan_ge (plain_step a.text.now) (length a.text.now) c.loop-from.from c.loop-from.from (le_refl c.loop-from.from) (omega (arith, c.loop-from-test.true))))
 
 -- where the copying stands
 module _ (c : At-loop-from-2) where

@@ -12,7 +12,9 @@ use Rattle.unescape.proofs.unescape.Goals as goal
 use Rattle.unescape.proofs.unescape.Goals.{then-out-text+else-out-needed, else-out-text, Joined-out-text}
 
 pub returns-in-Refused : goal.returns-in-Refused
-returns-in-Refused c = let both = told_refused _ _ _ _ (rw c.in-Refused.is at c.check_span.ensures) in record { answer = both.0; left = both.1 }
+returns-in-Refused c =
+    let both = told_refused _ _ _ _ (rw c.in-Refused.is at c.check_span.ensures) in
+    record { answer = both.0; left = both.1 }
 
 pub slice_bounds-text-count : goal.slice_bounds-text-count
 slice_bounds-text-count c = (span_accepted _ _ _ (sym (rw c.in_default.is at c.check_span.ensures))).1
@@ -25,7 +27,8 @@ slice_bounds-text-end c = (span_accepted _ _ _ (sym (rw c.in_default.is at c.che
 
 pub returns-then-out-needed : goal.returns-then-out-needed
 returns-then-out-needed c =
-    let told = c in let both = told_short _ _ _ _ (rw told.in_default.is at told.check_span.ensures) c.unescaped_len-needed.ensures c.if-out-needed.true in record { answer = both.0; left = both.1 }
+    let both = told_short _ _ _ _ (rw c.in_default.is at c.check_span.ensures) c.unescaped_len-needed.ensures c.if-out-needed.true in
+    record { answer = both.0; left = both.1 }
 
 -- the room is enough: it is as long as the text, or the bytes were counted
 enough : (c : Joined-out-text) → length (unescaped (is_escape c.args.kind) (part c.args.buf.now c.args.start c.args.end)) ≤ length c.args.out.now
@@ -41,7 +44,7 @@ put_unescaped-requires c = enough (goal.at.put_unescaped-requires c).Joined-out-
 
 pub returns : goal.returns
 returns c =
-    let put = c in
-    let told = c in
-    let counted = put.put_unescaped.ensures.count in let both = told_done _ _ _ _ (rw told.in_default.is at told.check_span.ensures) counted
-    (omega (arith, counted, enough (goal.at.returns c).Joined-out-text)) _ (rw counted put.put_unescaped.ensures.left) in record { answer = both.0; left = both.1 }
+    let counted = c.put_unescaped.ensures.count in
+    let both = told_done _ _ _ _ (rw c.in_default.is at c.check_span.ensures) counted
+    (omega (arith, counted, enough (goal.at.returns c).Joined-out-text)) _ (rw counted c.put_unescaped.ensures.left) in
+    record { answer = both.0; left = both.1 }

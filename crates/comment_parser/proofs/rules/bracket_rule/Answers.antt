@@ -13,7 +13,8 @@ returns-then-doubled_at c = λ h. record { is = rw (bracket_rule, ← c.doubled_
 
 pub returns-then-covers : goal.returns-then-covers
 unfolding bracket_rule
-returns-then-covers c = λ h. let a = c.args in record { is = rw (bracket_rule, ← c.doubled_at.ensures, c.if-doubled_at.false, covered_nowhere a.text.now a.p a.note h (sym c.covers.ensures ∙ c.if-covers.true) c.requires.1); holds = h }
+returns-then-covers c = λ h. let a = c.args in
+    record { is = rw (bracket_rule, ← c.doubled_at.ensures, c.if-doubled_at.false, covered_nowhere a.text.now a.p a.note h (sym c.covers.ensures ∙ c.if-covers.true) c.requires.1); holds = h }
 
 pub overflow_add-stop : goal.overflow_add-stop
 overflow_add-stop c = omega (arith, byte_within _ _ _ (sym c.byte_at.ensures ∙ c.if-byte_at.true))

@@ -13,4 +13,5 @@ returns-then-st c = λ h. record { is = rw (first_rule, ← c.byte_at.ensures, c
 
 pub returns-else-st : goal.returns-else-st
 unfolding first_rule
-returns-else-st c = λ h. let t = c.text_rule.ensures h in record { is = rw (first_rule, ← c.byte_at.ensures, c.if-byte_at.false, c.if-st.false) t.is; holds = t.holds }
+returns-else-st c = λ h. let t = c.text_rule.ensures h in
+    record { is = rw (first_rule, ← c.byte_at.ensures, c.if-byte_at.false, c.if-st.false) t.is; holds = t.holds }

@@ -13,4 +13,5 @@ label_item-requires c = let w = c.label_end-label.ensures.within in (w.0, w.1 (r
 
 pub returns : goal.returns
 unfolding tilde_rule
-returns c = λ h. let l = c.label_end-label.ensures.told h in record { is = rw (tilde_rule, ← c.doubled_at.ensures, c.if-doubled_at.false, c.moved.ensures, c.before_open-stop.ensures, c.after_close-next.ensures, c.label_item.ensures, l.ends, c.blanks_end-a.ensures); holds = l.holds }
+returns c = λ h. let l = c.label_end-label.ensures.told h in
+    record { is = rw (tilde_rule, ← c.doubled_at.ensures, c.if-doubled_at.false, c.moved.ensures, c.before_open-stop.ensures, c.after_close-next.ensures, c.label_item.ensures, l.ends, c.blanks_end-a.ensures); holds = l.holds }

@@ -14,7 +14,9 @@ use Rattle.comment_view.proofs.listed.events_by_view.Goals as goal
 use Rattle.comment_view.proofs.listed.events_by_view.Goals.{After-fill_lines, After-lay_by_view-n, In_default}
 
 pub returns-in-Refused : goal.returns-in-Refused
-returns-in-Refused c = let both = given_refused _ _ _ _ _ (ap checked_answer (sym c.in-Refused.is) ∙ c.check_span.ensures) in record { answer = both.0; left = both.1 }
+returns-in-Refused c =
+    let both = given_refused _ _ _ _ _ (ap checked_answer (sym c.in-Refused.is) ∙ c.check_span.ensures) in
+    record { answer = both.0; left = both.1 }
 
 -- the records are laid and counted, and their lines are filled in
 module _ (c : After-fill_lines) where
@@ -36,7 +38,13 @@ module _ (c : After-fill_lines) where
       c.fill_lines.ensures ∙ events_laid (named a.reading) a.buf.now a.start a.end a.out.now accepted called.lay_by_view-n.ensures.0 called.lay_by_view-n.ensures.1
 
 pub returns-then-n-most : goal.returns-then-n-most
-returns-then-n-most c = let f = (goal.at.returns-then-n-most c).After-fill_lines in let both = listed_done event_width _ _ (counted f) (lined f) _ (accepted f) (omega arith) in record { answer = both.0; left = both.1 }
+returns-then-n-most c =
+    let f = (goal.at.returns-then-n-most c).After-fill_lines in
+    let both = listed_done event_width _ _ (counted f) (lined f) _ (accepted f) (omega arith) in
+    record { answer = both.0; left = both.1 }
 
 pub returns-else-n-most : goal.returns-else-n-most
-returns-else-n-most c = let f = (goal.at.returns-else-n-most c).After-fill_lines in let both = listed_short event_width _ _ (counted f) (lined f) _ (accepted f) (omega arith) in record { answer = both.0; left = both.1 }
+returns-else-n-most c =
+    let f = (goal.at.returns-else-n-most c).After-fill_lines in
+    let both = listed_short event_width _ _ (counted f) (lined f) _ (accepted f) (omega arith) in
+    record { answer = both.0; left = both.1 }

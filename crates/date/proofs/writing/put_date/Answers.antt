@@ -17,8 +17,7 @@ use Rattle.date.proofs.writing.put_date.Goals.{After-slice_known-2-1}
 -- behind the day there is room for the month and the year
 rest_fits : (c : After-slice_known-2-1) → c.decimal_len-at.result + 5 + length (year_text c.args.date.year) ≤ length c.put_decimal.new.out
 rest_fits c =
-    let start = c in
-    omega (arith, c.out-1.given, c.decimal_len-at.ensures, length_date start.args.date, start.requires.1.1)
+    omega (arith, c.out-1.given, c.decimal_len-at.ensures, length_date c.args.date, c.requires.1.1)
 
 pub slice_bounds-put_month-count : goal.slice_bounds-put_month-count
 slice_bounds-put_month-count c = omega (arith, rest_fits (goal.at.slice_bounds-put_month-count c).After-slice_known-2-1)
@@ -31,8 +30,7 @@ put_month-requires c =
     let day = (goal.at.put_month-requires c).After-slice_known-2-1 in
     let at = day.decimal_len-at.result in
     let out = day.put_decimal.new.out in
-    let start = c in
-    (start.requires.0, (start.requires.1.0, rw tail_is (omega (arith, length-drop at out, rest_fits day))))
+    (c.requires.0, (c.requires.1.0, rw tail_is (omega (arith, length-drop at out, rest_fits day))))
 
 pub overflow_add-end : goal.overflow_add-end
 overflow_add-end c = omega (arith, rest_fits (goal.at.overflow_add-end c).After-slice_known-2-1)
@@ -45,28 +43,24 @@ slice_bounds-put_year-start c = omega (arith, rest_fits (goal.at.slice_bounds-pu
 
 pub put_year-requires : goal.put_year-requires
 put_year-requires c =
-    let month = c in
     let day = (goal.at.put_year-requires c).After-slice_known-2-1 in
     let at = day.decimal_len-at.result in
     let out = day.put_decimal.new.out in
-    let out2 = put_mid at (length out - at) out month.put_month.new.out in
+    let out2 = put_mid at (length out - at) out c.put_month.new.out in
     rw tail_is (omega (arith, length-drop (at + 5) out2, rest_fits day))
 
 pub returns : goal.returns
 unfolding date_text
 returns c =
-    let month = c in
-    let day = c in
-    let start = c in
-    let d = start.args.date in
-    let room = start.args.out.now in
-    let at = day.decimal_len-at in
-    let out = day.put_decimal in
-    let out2 = month.put_month in
+    let d = c.args.date in
+    let room = c.args.out.now in
+    let at = c.decimal_len-at in
+    let out = c.put_decimal in
+    let out2 = c.put_month in
     let out3 = c.put_year in
     let front = decimal d.day ++ month_text d.month in
     let end : at.result + 5 ≡ length front = omega (arith, at.ensures, length-append (decimal d.day) (month_text d.month), length_month d.month) in
-    let day_is = out.ensures.left ∙ over_left (decimal d.day) room (omega (arith, length_date d, start.requires.1.1)) in
+    let day_is = out.ensures.left ∙ over_left (decimal d.day) room (omega (arith, length_date d, c.requires.1.1)) in
     let month_is = over_then (decimal d.day) (month_text d.month) room out.new.out out2.new.out at.result at.ensures day_is out2.ensures in
     over_then front (year_text d.year) room (put_mid at.result (length out.new.out - at.result) out.new.out out2.new.out)
     out3.new.out (at.result + 5) end month_is out3.ensures

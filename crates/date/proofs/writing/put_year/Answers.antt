@@ -17,8 +17,7 @@ use Rattle.date.proofs.writing.put_year.Goals.{At-loop-at}
 -- the zeros and the digits fit
 room : (c : At-loop-at) → 4 - c.decimal_len-digits.result + c.decimal_len-digits.result ≤ length c.loop-at.out
 room c =
-    let start = c in
-    omega (arith, c.decimal_len-digits.ensures, length_year start.args.year, start.requires, c.loop-at.invariant.1.0)
+    omega (arith, c.decimal_len-digits.ensures, length_year c.args.year, c.requires, c.loop-at.invariant.1.0)
 
 pub loop-at-init : goal.loop-at-init
 unfolding over

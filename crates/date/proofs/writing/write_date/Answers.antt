@@ -10,13 +10,17 @@ use Rattle.date.proofs.writing.write_date.Goals as goal
 
 pub returns-then-date : goal.returns-then-date
 returns-then-date c =
-    let a = c.args in let both = told_refused bad_month (write_refusal a.date) (date_text a.date) a.out.now (refusal_month a.date c.if-date.true) in record { answer = both.0; left = both.1 }
+    let a = c.args in
+    let both = told_refused bad_month (write_refusal a.date) (date_text a.date) a.out.now (refusal_month a.date c.if-date.true) in
+    record { answer = both.0; left = both.1 }
 
 pub returns-then-out-needed : goal.returns-then-out-needed
 returns-then-out-needed c =
     let a = c.args in
     let good = refusal_none a.date c.if-date.false in
-    let needed = c.date_len-needed in let both = told_short needed.result (write_refusal a.date) (date_text a.date) a.out.now good needed.ensures c.if-out-needed.true in record { answer = both.0; left = both.1 }
+    let needed = c.date_len-needed in
+    let both = told_short needed.result (write_refusal a.date) (date_text a.date) a.out.now good needed.ensures c.if-out-needed.true in
+    record { answer = both.0; left = both.1 }
 
 pub put_date-requires : goal.put_date-requires
 put_date-requires c =
@@ -28,4 +32,6 @@ returns c =
     let a = c.args in
     let good = refusal_none a.date c.if-date.false in
     let needed = c.date_len-needed in
-    let put = c.put_date in let both = over_done needed.result (write_refusal a.date) (date_text a.date) a.out.now put.new.out good needed.ensures c.if-out-needed.false put.ensures in record { answer = both.0; left = both.1 }
+    let put = c.put_date in
+    let both = over_done needed.result (write_refusal a.date) (date_text a.date) a.out.now put.new.out good needed.ensures c.if-out-needed.false put.ensures in
+    record { answer = both.0; left = both.1 }

@@ -15,9 +15,8 @@ bounds-buf-i c = omega arith
 
 pub overflow_add-n : goal.overflow_add-n
 overflow_add-n c =
-    let l = c in
-    let a = l.args in
-    omega (arith, line_step a.buf.now l.loop-i.i (omega arith), line_grows a.buf.now a.from (l.loop-i.i + 1) (omega arith))
+    let a = c.args in
+    omega (arith, line_step a.buf.now c.loop-i.i (omega arith), line_grows a.buf.now a.from (c.loop-i.i + 1) (omega arith))
 
 pub overflow_add-i : goal.overflow_add-i
 overflow_add-i c = omega arith
@@ -27,12 +26,10 @@ loop-i-smaller c = omega arith
 
 pub loop-i-preserved : goal.loop-i-preserved
 loop-i-preserved c =
-    let l = c in
-    let a = l.args in
-    omega (arith, line_step a.buf.now l.loop-i.i (omega arith))
+    let a = c.args in
+    omega (arith, line_step a.buf.now c.loop-i.i (omega arith))
 
 pub returns : goal.returns
 returns c =
-    let l = c in
-    let a = l.args in
-    l.loop-i.invariant.1.1 ∙ ap (line_of a.buf.now) (omega arith)
+    let a = c.args in
+    c.loop-i.invariant.1.1 ∙ ap (line_of a.buf.now) (omega arith)

@@ -33,15 +33,13 @@ count_short-requires c = omega arith
 
 pub overflow_cast-n : goal.overflow_cast-n
 overflow_cast-n c =
-    let l = c in
-    let a = l.args in
-    omega (arith, line_grows a.buf.now l.loop-i.i (l.loop-i.i + 240) (omega arith))
+    let a = c.args in
+    omega (arith, line_grows a.buf.now c.loop-i.i (c.loop-i.i + 240) (omega arith))
 
 pub overflow_add-n : goal.overflow_add-n
 overflow_add-n c =
-    let l = c in
-    let a = l.args in
-    omega (arith, line_grows a.buf.now a.from (l.loop-i.i + 240) (omega arith))
+    let a = c.args in
+    omega (arith, line_grows a.buf.now a.from (c.loop-i.i + 240) (omega arith))
 
 pub overflow_add-i-in-loop-i : goal.overflow_add-i-in-loop-i
 overflow_add-i-in-loop-i c = omega arith
@@ -57,16 +55,12 @@ count_short-requires-2 c = omega arith
 
 pub overflow_cast-result : goal.overflow_cast-result
 overflow_cast-result c =
-    let l = c in
-    let e = c in
-    omega (arith, line_grows e.args.buf.now l.loop-i.i e.least-end.result (omega arith))
+    omega (arith, line_grows c.args.buf.now c.loop-i.i c.least-end.result (omega arith))
 
 pub overflow_add-result : goal.overflow_add-result
 overflow_add-result c =
-    let l = c in
-    let e = c in
-    let a = e.args in
-    omega (arith, line_grows a.buf.now a.from e.least-end.result (omega arith))
+    let a = c.args in
+    omega (arith, line_grows a.buf.now a.from c.least-end.result (omega arith))
 
 pub returns : goal.returns
 returns c = omega (arith, cut (goal.at.returns c).After-least-end)

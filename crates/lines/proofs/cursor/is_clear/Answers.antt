@@ -28,14 +28,12 @@ loop-k-smaller c = omega arith
 
 pub loop-k-preserved : goal.loop-k-preserved
 loop-k-preserved c =
-    let l = c in
-    let a = l.args in
-    (omega arith, clear_more a.buf.now a.i l.loop-k.k l.loop-k.found (omega arith) l.loop-k.invariant.1)
+    let a = c.args in
+    (omega arith, clear_more a.buf.now a.i c.loop-k.k c.loop-k.found (omega arith) c.loop-k.invariant.1)
 
 pub returns : goal.returns
 returns c = λ t.
-    let l = c in
-    let a = l.args in
-    let all : a.n ≡ l.loop-k.k = omega arith in
-    let same = ap (λ (x : ℕ). line_of a.buf.now (a.i + x)) all ∙ l.loop-k.invariant.1 (not_found _ t) in
+    let a = c.args in
+    let all : a.n ≡ c.loop-k.k = omega arith in
+    let same = ap (λ (x : ℕ). line_of a.buf.now (a.i + x)) all ∙ c.loop-k.invariant.1 (not_found _ t) in
     record { order = omega arith; inside = omega arith; same = same }

@@ -26,7 +26,7 @@ pub skip-i-requires : goal.skip-i-requires
 skip-i-requires c = c.skip-near.ensures.inside
 
 pub loop-i-init : goal.loop-i-init
-loop-i-init c = let near = c in clear_on (clear_on near.loop-far.invariant near.skip-near.ensures) c.skip-i.ensures
+loop-i-init c = clear_on (clear_on c.loop-far.invariant c.skip-near.ensures) c.skip-i.ensures
 
 pub bounds-buf-i : goal.bounds-buf-i
 bounds-buf-i c = omega arith

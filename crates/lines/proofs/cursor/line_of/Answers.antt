@@ -9,25 +9,23 @@ use Rattle.lines.proofs.Moving.{next_line, in_line, in_last}
 use Rattle.lines.proofs.cursor.line_of.Goals as goal
 
 pub line_end-requires : goal.line_end-requires
-line_end-requires c = let e = c in omega (arith, e.requires.to_end.clear.order, e.requires.to_end.clear.inside)
+line_end-requires c = omega (arith, c.requires.to_end.clear.order, c.requires.to_end.clear.inside)
 
 pub overflow_sub-result : goal.overflow_sub-result
-overflow_sub-result c = let e = c in omega (arith, e.requires.number)
+overflow_sub-result c = omega (arith, c.requires.number)
 
 pub returns-then-to-from : goal.returns-then-to-from
 returns-then-to-from c =
-    let e = c in
-    let a = e.args in
-    let is : a.line.number - c.lines_between.result ≡ line_of a.buf.now a.to = omega (arith, e.requires.number, line_grows a.buf.now a.to a.line.from (omega arith)) in record { line = record { number = is; to_end = c.line_end.ensures }; number = is }
+    let a = c.args in
+    let is : a.line.number - c.lines_between.result ≡ line_of a.buf.now a.to = omega (arith, c.requires.number, line_grows a.buf.now a.to a.line.from (omega arith)) in record { line = record { number = is; to_end = c.line_end.ensures }; number = is }
 
 pub loop-here-init : goal.loop-here-init
 loop-here-init c = (c.requires, c.if-to-from.false)
 
 pub returns-then-here-buf : goal.returns-then-here-buf
 returns-then-here-buf c =
-    let l = c in
-    let a = l.args in
-    let is = l.loop-here.invariant.0 in record { line = is; number = in_last a.buf.now l.loop-here.here is a.to (omega arith) (omega arith) }
+    let a = c.args in
+    let is = c.loop-here.invariant.0 in record { line = is; number = in_last a.buf.now c.loop-here.here is a.to (omega arith) (omega arith) }
 
 pub overflow_add-from : goal.overflow_add-from
 overflow_add-from c = omega (arith, c.loop-here.invariant.0.to_end.clear.inside)
@@ -37,23 +35,19 @@ line_end-requires-in-loop-here c = omega (arith, c.loop-here.invariant.0.to_end.
 
 pub overflow_add-here : goal.overflow_add-here
 overflow_add-here c =
-    let l = c in
-    let is = l.loop-here.invariant.0 in
-    omega (arith, is.number, is.to_end.clear.order, is.to_end.clear.inside, line_most l.args.buf.now l.loop-here.here.from)
+    let is = c.loop-here.invariant.0 in
+    omega (arith, is.number, is.to_end.clear.order, is.to_end.clear.inside, line_most c.args.buf.now c.loop-here.here.from)
 
 pub loop-here-smaller : goal.loop-here-smaller
 loop-here-smaller c =
-    let l = c in
-    omega (arith, c.line_end-in-loop-here.ensures.clear.order, l.loop-here.invariant.0.to_end.clear.inside)
+    omega (arith, c.line_end-in-loop-here.ensures.clear.order, c.loop-here.invariant.0.to_end.clear.inside)
 
 pub loop-here-preserved : goal.loop-here-preserved
 loop-here-preserved c =
-    let l = c in
-    let is = l.loop-here.invariant.0 in
-    (next_line l.args.buf.now l.loop-here.here c.line_end-in-loop-here.result is (omega (arith, is.to_end.clear.inside)) c.line_end-in-loop-here.ensures, omega arith)
+    let is = c.loop-here.invariant.0 in
+    (next_line c.args.buf.now c.loop-here.here c.line_end-in-loop-here.result is (omega (arith, is.to_end.clear.inside)) c.line_end-in-loop-here.ensures, omega arith)
 
 pub returns : goal.returns
 returns c =
-    let l = c in
-    let a = l.args in
-    let is = l.loop-here.invariant.0 in record { line = is; number = in_line a.buf.now l.loop-here.here is a.to l.loop-here.invariant.1 (omega arith) }
+    let a = c.args in
+    let is = c.loop-here.invariant.0 in record { line = is; number = in_line a.buf.now c.loop-here.here is a.to c.loop-here.invariant.1 (omega arith) }

@@ -10,20 +10,16 @@ loop-i-init c = (omega arith, check_starts _ _)
 
 pub returns-then-bad_at : goal.returns-then-bad_at
 returns-then-bad_at c =
-    let t = c in
-    sym (check_stops _ _ _ _ t.loop-i-test.true (sym c.bad_at.ensures ∙ c.if-bad_at.true)) ∙ t.loop-i.invariant.1
+    sym (check_stops _ _ _ _ c.loop-i-test.true (sym c.bad_at.ensures ∙ c.if-bad_at.true)) ∙ c.loop-i.invariant.1
 
 pub loop-i-preserved : goal.loop-i-preserved
 loop-i-preserved c =
-    let t = c in
-    (omega arith, sym (check_goes _ _ _ _ t.loop-i-test.true (sym c.bad_at.ensures ∙ c.if-bad_at.false)) ∙ t.loop-i.invariant.1)
+    (omega arith, sym (check_goes _ _ _ _ c.loop-i-test.true (sym c.bad_at.ensures ∙ c.if-bad_at.false)) ∙ c.loop-i.invariant.1)
 
 pub returns-then-start_of-bytes : goal.returns-then-start_of-bytes
 returns-then-start_of-bytes c =
-    let t = c in
-    sym (check_ends _ _ _ _ t.loop-i-test.false (omega (arith, c.start_of.ensures))) ∙ t.loop-i.invariant.1
+    sym (check_ends _ _ _ _ c.loop-i-test.false (omega (arith, c.start_of.ensures))) ∙ c.loop-i.invariant.1
 
 pub returns-else-start_of-bytes : goal.returns-else-start_of-bytes
 returns-else-start_of-bytes c =
-    let t = c in
-    sym (check_gap _ _ _ _ t.loop-i-test.false (λ e. c.if-start_of-bytes.false (omega (arith, c.start_of.ensures)))) ∙ t.loop-i.invariant.1
+    sym (check_gap _ _ _ _ c.loop-i-test.false (λ e. c.if-start_of-bytes.false (omega (arith, c.start_of.ensures)))) ∙ c.loop-i.invariant.1

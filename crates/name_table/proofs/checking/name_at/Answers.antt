@@ -5,6 +5,4 @@ use Rattle.name_table.proofs.checking.name_at.Goals as goal
 
 pub returns : goal.returns
 returns c =
-    let s = c in
-    let e = c in
-    rw (s.least-s.ensures, s.start_of.ensures, e.least-e.ensures, e.end_of.ensures) (part_within s.args.bytes.now _ _)
+    rw (c.least-s.ensures, c.start_of.ensures, c.least-e.ensures, c.end_of.ensures) (part_within c.args.bytes.now _ _)

@@ -9,18 +9,12 @@ returns-then-i-eq0 c = greater_first _ _ _ c.if-i-eq0.true
 
 pub returns-in-Less : goal.returns-in-Less
 returns-in-Less c =
-    let o = c in
-    let n = c in
-    greater_by _ _ _ n.if-i-eq0.false _ _ n.name_at-before.ensures n.name_at-name.ensures _ Less o.order_of.ensures c.in-Less.is
+    greater_by _ _ _ c.if-i-eq0.false _ _ c.name_at-before.ensures c.name_at-name.ensures _ Less c.order_of.ensures c.in-Less.is
 
 pub returns-in-Same : goal.returns-in-Same
 returns-in-Same c =
-    let o = c in
-    let n = c in
-    greater_by _ _ _ n.if-i-eq0.false _ _ n.name_at-before.ensures n.name_at-name.ensures _ Same o.order_of.ensures c.in-Same.is
+    greater_by _ _ _ c.if-i-eq0.false _ _ c.name_at-before.ensures c.name_at-name.ensures _ Same c.order_of.ensures c.in-Same.is
 
 pub returns-in-More : goal.returns-in-More
 returns-in-More c =
-    let o = c in
-    let n = c in
-    greater_by _ _ _ n.if-i-eq0.false _ _ n.name_at-before.ensures n.name_at-name.ensures _ More o.order_of.ensures c.in-More.is
+    greater_by _ _ _ c.if-i-eq0.false _ _ c.name_at-before.ensures c.name_at-name.ensures _ More c.order_of.ensures c.in-More.is

@@ -14,37 +14,31 @@ loop-k-init c = refl
 pub returns-then-a-b : goal.returns-then-a-b
 unfolding spelled
 returns-then-a-b c =
-    let l = c in
-    sym (compare_lower _ Plain _ l.loop-k.k l.loop-k.k (omega arith) (omega arith) c.if-a-b.true) ∙ l.loop-k.invariant
+    sym (compare_lower _ Plain _ c.loop-k.k c.loop-k.k (omega arith) (omega arith) c.if-a-b.true) ∙ c.loop-k.invariant
 
 pub returns-then-b-a : goal.returns-then-b-a
 unfolding spelled
 returns-then-b-a c =
-    let l = c in
-    sym (compare_higher _ Plain _ l.loop-k.k l.loop-k.k (omega arith) (omega arith) c.if-b-a.true) ∙ l.loop-k.invariant
+    sym (compare_higher _ Plain _ c.loop-k.k c.loop-k.k (omega arith) (omega arith) c.if-b-a.true) ∙ c.loop-k.invariant
 
 pub loop-k-preserved : goal.loop-k-preserved
 unfolding spelled step_of
 loop-k-preserved c =
-    let l = c in
-    let a = l.args in
-    let same : get_or a.name.now l.loop-k.k 0 ≡ get_or a.other.now l.loop-k.k 0 = omega arith in
-    sym (compare_equal _ Plain _ l.loop-k.k l.loop-k.k (omega arith) (omega arith) same) ∙ l.loop-k.invariant
+    let a = c.args in
+    let same : get_or a.name.now c.loop-k.k 0 ≡ get_or a.other.now c.loop-k.k 0 = omega arith in
+    sym (compare_equal _ Plain _ c.loop-k.k c.loop-k.k (omega arith) (omega arith) same) ∙ c.loop-k.invariant
 
 pub returns-then-k-other : goal.returns-then-k-other
 unfolding spelled
 returns-then-k-other c =
-    let l = c in
-    sym (compare_short _ Plain _ l.loop-k.k l.loop-k.k c.if-k-other.true (omega arith)) ∙ l.loop-k.invariant
+    sym (compare_short _ Plain _ c.loop-k.k c.loop-k.k c.if-k-other.true (omega arith)) ∙ c.loop-k.invariant
 
 pub returns-then-k-name : goal.returns-then-k-name
 unfolding spelled
 returns-then-k-name c =
-    let l = c in
-    sym (compare_longer _ Plain _ l.loop-k.k l.loop-k.k c.if-k-other.false c.if-k-name.true) ∙ l.loop-k.invariant
+    sym (compare_longer _ Plain _ c.loop-k.k c.loop-k.k c.if-k-other.false c.if-k-name.true) ∙ c.loop-k.invariant
 
 pub returns-else-k-name : goal.returns-else-k-name
 unfolding spelled
 returns-else-k-name c =
-    let l = c in
-    sym (compare_over _ Plain _ l.loop-k.k l.loop-k.k c.if-k-other.false c.if-k-name.false) ∙ l.loop-k.invariant
+    sym (compare_over _ Plain _ c.loop-k.k c.loop-k.k c.if-k-other.false c.if-k-name.false) ∙ c.loop-k.invariant

@@ -10,42 +10,34 @@ pub loop-i-init : goal.loop-i-init
 loop-i-init c = refl
 
 pub returns-then-name-k : goal.returns-then-name-k
-returns-then-name-k c = let t = c in sym (compare_short _ _ _ _ _ t.loop-i-test.true c.if-name-k.true) ∙ t.loop-i.invariant
+returns-then-name-k c = sym (compare_short _ _ _ _ _ c.loop-i-test.true c.if-name-k.true) ∙ c.loop-i.invariant
 
 pub returns-then-a-b : goal.returns-then-a-b
 returns-then-a-b c =
-    let k = c in
-    let t = c in
-    sym (compare_lower _ _ _ _ _ t.loop-i-test.true k.if-name-k.false c.if-a-b.true) ∙ t.loop-i.invariant
+    sym (compare_lower _ _ _ _ _ c.loop-i-test.true c.if-name-k.false c.if-a-b.true) ∙ c.loop-i.invariant
 
 pub returns-then-b-a : goal.returns-then-b-a
 returns-then-b-a c =
-    let k = c in
-    let t = c in
-    sym (compare_higher _ _ _ _ _ t.loop-i-test.true k.if-name-k.false c.if-b-a.true) ∙ t.loop-i.invariant
+    sym (compare_higher _ _ _ _ _ c.loop-i-test.true c.if-name-k.false c.if-b-a.true) ∙ c.loop-i.invariant
 
 pub overflow_add-i : goal.overflow_add-i
 overflow_add-i c =
-    let t = c in
-    let a = t.args in
-    omega (arith, c.step-i.ensures, step_within a.how a.text.now t.loop-i.i t.loop-i-test.true)
+    let a = c.args in
+    omega (arith, c.step-i.ensures, step_within a.how a.text.now c.loop-i.i c.loop-i-test.true)
 
 pub loop-i-smaller : goal.loop-i-smaller
 loop-i-smaller c =
-    let l = c in
-    let a = l.args in
-    omega (arith, c.step-i.ensures, step_some a.how a.text.now l.loop-i.i)
+    let a = c.args in
+    omega (arith, c.step-i.ensures, step_some a.how a.text.now c.loop-i.i)
 
 pub loop-i-preserved : goal.loop-i-preserved
 loop-i-preserved c =
-    let k = c in
-    let t = c in
-    let a = t.args in
-    let same : get_or a.name.now t.loop-i.k 0 ≡ get_or a.text.now t.loop-i.i 0 = omega arith in
-    rw c.step-i.ensures (sym (compare_equal _ _ _ _ _ t.loop-i-test.true k.if-name-k.false same) ∙ t.loop-i.invariant)
+    let a = c.args in
+    let same : get_or a.name.now c.loop-i.k 0 ≡ get_or a.text.now c.loop-i.i 0 = omega arith in
+    rw c.step-i.ensures (sym (compare_equal _ _ _ _ _ c.loop-i-test.true c.if-name-k.false same) ∙ c.loop-i.invariant)
 
 pub returns-then-k-name : goal.returns-then-k-name
-returns-then-k-name c = let t = c in sym (compare_longer _ _ _ _ _ t.loop-i-test.false c.if-k-name.true) ∙ t.loop-i.invariant
+returns-then-k-name c = sym (compare_longer _ _ _ _ _ c.loop-i-test.false c.if-k-name.true) ∙ c.loop-i.invariant
 
 pub returns-else-k-name : goal.returns-else-k-name
-returns-else-k-name c = let t = c in sym (compare_over _ _ _ _ _ t.loop-i-test.false c.if-k-name.false) ∙ t.loop-i.invariant
+returns-else-k-name c = sym (compare_over _ _ _ _ _ c.loop-i-test.false c.if-k-name.false) ∙ c.loop-i.invariant

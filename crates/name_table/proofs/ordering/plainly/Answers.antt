@@ -13,8 +13,7 @@ returns-then-step-gt1 c = refl
 
 pub loop-i-preserved : goal.loop-i-preserved
 loop-i-preserved c =
-    let t = c in
-    plain_on _ _ t.loop-i.i t.loop-i-test.true (omega (arith, c.step.ensures)) t.loop-i.invariant
+    plain_on _ _ c.loop-i.i c.loop-i-test.true (omega (arith, c.step.ensures)) c.loop-i.invariant
 
 pub returns : goal.returns
 returns c = plain_ends _ _ _ c.loop-i-test.false c.loop-i.invariant

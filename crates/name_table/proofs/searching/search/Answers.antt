@@ -22,28 +22,24 @@ loop-lo-init c = (omega arith, search_starts _ _ _)
 -- how the middle name stands to the one sought
 looked : (c : After-compare)
     → let l = c.loop-lo in
-    let p = c in
-    let a = p.args in
-    order_of (name_at a.bytes.now a.ends.now (middle l.lo l.hi)) (spelled p.plainly-how.result a.text.now) ≡ c.compare.result
+    let a = c.args in
+    order_of (name_at a.bytes.now a.ends.now (middle l.lo l.hi)) (spelled c.plainly-how.result a.text.now) ≡ c.compare.result
 looked c = sym (c.compare.ensures ∙ rw c.name_at.ensures)
 
 pub loop-lo-preserved-in-Less : goal.loop-lo-preserved-in-Less
 loop-lo-preserved-in-Less c =
     let o = (goal.at.loop-lo-preserved-in-Less c).After-compare in
-    let t = c in
-    (omega arith, sym (search_up _ _ _ _ _ t.loop-lo-test.true (looked o ∙ c.in-Less.is)) ∙ t.loop-lo.invariant.1)
+    (omega arith, sym (search_up _ _ _ _ _ c.loop-lo-test.true (looked o ∙ c.in-Less.is)) ∙ c.loop-lo.invariant.1)
 
 pub returns-in-Same : goal.returns-in-Same
 returns-in-Same c =
     let o = (goal.at.returns-in-Same c).After-compare in
-    let t = (goal.at.returns-in-Same c).In-loop-lo in
-    sym (search_here _ _ _ _ _ t.loop-lo-test.true (looked o ∙ c.in-Same.is)) ∙ t.loop-lo.invariant.1 ∙ same (goal.at.returns-in-Same c).After-plainly-how
+    sym (search_here _ _ _ _ _ c.loop-lo-test.true (looked o ∙ c.in-Same.is)) ∙ c.loop-lo.invariant.1 ∙ same (goal.at.returns-in-Same c).After-plainly-how
 
 pub loop-lo-preserved : goal.loop-lo-preserved
 loop-lo-preserved c =
     let o = (goal.at.loop-lo-preserved c).After-compare in
-    let t = c in
-    (omega arith, sym (search_down _ _ _ _ _ t.loop-lo-test.true (looked o ∙ c.in-More.is)) ∙ t.loop-lo.invariant.1)
+    (omega arith, sym (search_down _ _ _ _ _ c.loop-lo-test.true (looked o ∙ c.in-More.is)) ∙ c.loop-lo.invariant.1)
 
 pub returns : goal.returns
 returns c = let l = c.loop-lo in sym (search_over _ _ _ l.lo l.hi c.loop-lo-test.false) ∙ l.invariant.1 ∙ same (goal.at.returns c).After-plainly-how

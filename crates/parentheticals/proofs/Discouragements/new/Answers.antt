@@ -12,6 +12,5 @@ returns-in-Refused c = rw (sym c.check_length.ensures ∙ ap checked_answer c.in
 pub returns : goal.returns
 unfolding discouragements_answer
 returns c =
-    let told = c in
-    let good = sym told.check_length.ensures ∙ ap checked_answer told.in_default.is in
+    let good = sym c.check_length.ensures ∙ ap checked_answer c.in_default.is in
     rw (good, ← c.stands_in.ensures, ← c.stands_in-2.ensures)

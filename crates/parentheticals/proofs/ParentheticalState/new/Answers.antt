@@ -7,8 +7,10 @@ use Rattle.parentheticals.proofs.ParentheticalState.new.Goals as goal
 
 pub returns-in-Refused : goal.returns-in-Refused
 unfolding start_answer start_state
-returns-in-Refused c = let refused = sym c.check_span.ensures ∙ ap checked_answer c.in-Refused.is in record { answer = rw refused; state = rw refused }
+returns-in-Refused c = let refused = sym c.check_span.ensures ∙ ap checked_answer c.in-Refused.is in
+    record { answer = rw refused; state = rw refused }
 
 pub returns : goal.returns
 unfolding start_answer start_state
-returns c = let good = sym c.check_span.ensures ∙ ap checked_answer c.in_default.is in record { answer = rw good; state = rw good }
+returns c = let good = sym c.check_span.ensures ∙ ap checked_answer c.in_default.is in
+    record { answer = rw good; state = rw good }

@@ -11,7 +11,8 @@ use Rattle.parentheticals.proofs.ParentheticalState.next.Goals as goal
 pub returns-in-Refused : goal.returns-in-Refused
 unfolding next_answer next_state
 returns-in-Refused c =
-    let refused = sym c.check_state.ensures ∙ ap checked_answer c.in-Refused.is in record { step = rw refused; state = rw refused }
+    let refused = sym c.check_state.ensures ∙ ap checked_answer c.in-Refused.is in
+    record { step = rw refused; state = rw refused }
 
 pub slice_bounds-next_match-end : goal.slice_bounds-next_match-end
 slice_bounds-next_match-end c =
@@ -21,13 +22,13 @@ slice_bounds-next_match-end c =
 pub returns-in-Hit : goal.returns-in-Hit
 unfolding next_answer next_state
 returns-in-Hit c =
-    let good_place = c in
-    let good = sym good_place.check_state.ensures ∙ ap checked_answer good_place.in_default.is in
-    let hit = sym c.next_match.ensures ∙ ap found_of c.in-Hit.is in record { step = rw (good, hit); state = rw (good, hit) }
+    let good = sym c.check_state.ensures ∙ ap checked_answer c.in_default.is in
+    let hit = sym c.next_match.ensures ∙ ap found_of c.in-Hit.is in
+    record { step = rw (good, hit); state = rw (good, hit) }
 
 pub returns-in-Nothing : goal.returns-in-Nothing
 unfolding next_answer next_state
 returns-in-Nothing c =
-    let good_place = c in
-    let good = sym good_place.check_state.ensures ∙ ap checked_answer good_place.in_default.is in
-    let nothing = sym c.next_match.ensures ∙ ap found_of c.in-Nothing.is in record { step = rw (good, nothing); state = rw (good, nothing) }
+    let good = sym c.check_state.ensures ∙ ap checked_answer c.in_default.is in
+    let nothing = sym c.next_match.ensures ∙ ap found_of c.in-Nothing.is in
+    record { step = rw (good, nothing); state = rw (good, nothing) }

@@ -13,24 +13,20 @@ returns-in_default c = author_none _ _ (sym c.spaces_at.ensures ∙ ap place_of 
 
 pub overflow_add-at : goal.overflow_add-at
 overflow_add-at c =
-    let spaced = c in
-    let spaces = sym spaced.spaces_at.ensures ∙ ap place_of spaced.in-At.is in
+    let spaces = sym c.spaces_at.ensures ∙ ap place_of c.in-At.is in
     omega (arith, spaces_are _ _ _ spaces, byte_within _ _ _ (sym c.byte_at.ensures ∙ c.if-byte_at.true))
 
 pub returns-then-at-end : goal.returns-then-at-end
 returns-then-at-end c =
-    let spaced = c in
-    let spaces = sym spaced.spaces_at.ensures ∙ ap place_of spaced.in-At.is in
+    let spaces = sym c.spaces_at.ensures ∙ ap place_of c.in-At.is in
     author_back _ _ _ spaces (sym c.byte_at.ensures ∙ c.if-byte_at.true) c.if-at-end.true
 
 pub returns-then-byte_at : goal.returns-then-byte_at
 returns-then-byte_at c =
-    let spaced = c in
-    let spaces = sym spaced.spaces_at.ensures ∙ ap place_of spaced.in-At.is in
+    let spaces = sym c.spaces_at.ensures ∙ ap place_of c.in-At.is in
     author_one _ _ _ spaces (sym c.byte_at.ensures ∙ c.if-byte_at.true) c.if-at-end.false
 
 pub returns : goal.returns
 returns c =
-    let spaced = c in
-    let spaces = sym spaced.spaces_at.ensures ∙ ap place_of spaced.in-At.is in
+    let spaces = sym c.spaces_at.ensures ∙ ap place_of c.in-At.is in
     author_here _ _ _ spaces (sym c.byte_at.ensures ∙ c.if-byte_at.false)

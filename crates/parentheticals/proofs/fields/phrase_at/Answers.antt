@@ -11,14 +11,12 @@ loop-k-init c = refl
 pub returns-in_default : goal.returns-in_default
 returns-in_default c =
     let none_here = sym c.sign_at.ensures ∙ ap place_of c.in_default.is in
-    let turn = c in
-    sym (phrase_stop _ _ _ _ turn.loop-k-test.true none_here) ∙ turn.loop-k.invariant
+    sym (phrase_stop _ _ _ _ c.loop-k-test.true none_here) ∙ c.loop-k.invariant
 
 pub loop-k-preserved : goal.loop-k-preserved
 loop-k-preserved c =
     let here = sym c.sign_at.ensures ∙ ap place_of c.in-At.is in
-    let turn = c in
-    sym (phrase_next _ _ _ _ turn.loop-k-test.true _ here) ∙ turn.loop-k.invariant
+    sym (phrase_next _ _ _ _ c.loop-k-test.true _ here) ∙ c.loop-k.invariant
 
 pub returns : goal.returns
 returns c = sym (phrase_end _ _ _ _ c.loop-k-test.false) ∙ c.loop-k.invariant

@@ -13,14 +13,12 @@ returns-then-text-i c = sym (picture_past _ _ _ _ c.loop-k-test.true c.if-text-i
 pub loop-k-preserved : goal.loop-k-preserved
 loop-k-preserved c =
     let fit = sym c.is_fit.ensures ∙ c.if-is_fit.true in
-    let turn = c in
-    sym (picture_next _ _ _ _ turn.loop-k-test.true c.if-text-i.false fit) ∙ turn.loop-k.invariant
+    sym (picture_next _ _ _ _ c.loop-k-test.true c.if-text-i.false fit) ∙ c.loop-k.invariant
 
 pub returns-else-is_fit : goal.returns-else-is_fit
 returns-else-is_fit c =
     let no_fit = sym c.is_fit.ensures ∙ c.if-is_fit.false in
-    let turn = c in
-    sym (picture_stop _ _ _ _ turn.loop-k-test.true c.if-text-i.false no_fit) ∙ turn.loop-k.invariant
+    sym (picture_stop _ _ _ _ c.loop-k-test.true c.if-text-i.false no_fit) ∙ c.loop-k.invariant
 
 pub returns : goal.returns
 returns c = sym (picture_end _ _ _ _ c.loop-k-test.false) ∙ c.loop-k.invariant

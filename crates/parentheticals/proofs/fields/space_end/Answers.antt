@@ -11,14 +11,12 @@ loop-i-init c = refl
 pub loop-i-preserved : goal.loop-i-preserved
 loop-i-preserved c =
     let space = sym c.is_credit_space.ensures ∙ c.if-is_credit_space.true in
-    let turn = c in
-    omega (arith, run_more turn.args.text.now turn.loop-i.i turn.loop-i-test.true space)
+    omega (arith, run_more c.args.text.now c.loop-i.i c.loop-i-test.true space)
 
 pub returns-else-is_credit_space : goal.returns-else-is_credit_space
 returns-else-is_credit_space c =
     let space = sym c.is_credit_space.ensures ∙ c.if-is_credit_space.false in
-    let turn = c in
-    omega (arith, run_stop turn.args.text.now turn.loop-i.i turn.loop-i-test.true space)
+    omega (arith, run_stop c.args.text.now c.loop-i.i c.loop-i-test.true space)
 
 pub returns : goal.returns
 returns c = omega (arith, run_past c.args.text.now c.loop-i.i c.loop-i-test.false)

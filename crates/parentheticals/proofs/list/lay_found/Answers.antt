@@ -27,7 +27,7 @@ overflow_cast-date-2 c =
 
 pub returns : goal.returns
 returns c =
-    let kinded = c in
-    let kind = kinded.kind_of.ensures in
-    let date = kinded.date_of-date.ensures in
-    let author = kinded.author_of-author.ensures in record { wrote = rw (← kind, ← author, ← date) c.lay.ensures.wrote; left = rw (← kind, ← author, ← date) c.lay.ensures.left }
+    let kind = c.kind_of.ensures in
+    let date = c.date_of-date.ensures in
+    let author = c.author_of-author.ensures in
+    record { wrote = rw (← kind, ← author, ← date) c.lay.ensures.wrote; left = rw (← kind, ← author, ← date) c.lay.ensures.left }

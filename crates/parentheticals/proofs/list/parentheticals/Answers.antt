@@ -23,9 +23,11 @@ use Rattle.parentheticals.proofs.list.parentheticals.Goals as goal
 use Rattle.parentheticals.proofs.list.parentheticals.Goals.{After-lay_found-wrote, At-loop-found, In-Hit, In_default-next_match}
 
 pub returns-in-Refused : goal.returns-in-Refused
-returns-in-Refused c = let both = given_refused _ _ record_width _ _ (sym (ap checked_answer c.in-Refused.is) ∙ c.check_span.ensures) in record { answer = both.0; left = both.1 }
+returns-in-Refused c =
+    let both = given_refused _ _ record_width _ _ (sym (ap checked_answer c.in-Refused.is) ∙ c.check_span.ensures) in
+    record { answer = both.0; left = both.1 }
 
--- the function's entry, seen from the loop's head; and the records of the span, of which `rest` are to come
+-- at the loop's head: the text, the reading, and the records of the span, of which `rest` are to come
 abbrev text : At-loop-found → List ℕ
 text l = take l.args.end l.args.buf.now
 
@@ -123,7 +125,11 @@ loop-found-preserved c =
     }
 
 pub returns-then-n-out : goal.returns-then-n-out
-returns-then-n-out c = let both = given_done (none_to_come (goal.at.returns-then-n-out c).In_default-next_match) _ (not_refused (goal.at.returns-then-n-out c).At-loop-found) (omega arith) in record { answer = both.0; left = both.1 }
+returns-then-n-out c =
+    let both = given_done (none_to_come (goal.at.returns-then-n-out c).In_default-next_match) _ (not_refused (goal.at.returns-then-n-out c).At-loop-found) (omega arith) in
+    record { answer = both.0; left = both.1 }
 
 pub returns-else-n-out : goal.returns-else-n-out
-returns-else-n-out c = let both = given_short (none_to_come (goal.at.returns-else-n-out c).In_default-next_match) _ (not_refused (goal.at.returns-else-n-out c).At-loop-found) (omega arith) in record { answer = both.0; left = both.1 }
+returns-else-n-out c =
+    let both = given_short (none_to_come (goal.at.returns-else-n-out c).In_default-next_match) _ (not_refused (goal.at.returns-else-n-out c).At-loop-found) (omega arith) in
+    record { answer = both.0; left = both.1 }

@@ -12,27 +12,22 @@ returns-in-At c = rw (sym c.author_after.ensures ∙ ap place_of c.in-At.is)
 pub returns-in-At-author_after : goal.returns-in-At-author_after
 unfolding head_at
 returns-in-At-author_after c =
-    let first_place = c in
-    let first = sym first_place.author_after.ensures ∙ ap place_of first_place.in_default.is in
+    let first = sym c.author_after.ensures ∙ ap place_of c.in_default.is in
     let second = sym c.author_after-2.ensures ∙ ap place_of c.in-At-author_after.is in
     rw (first, second)
 
 pub returns-in-At-author_after-2 : goal.returns-in-At-author_after-2
 unfolding head_at
 returns-in-At-author_after-2 c =
-    let first_place = c in
-    let first = sym first_place.author_after.ensures ∙ ap place_of first_place.in_default.is in
-    let second_place = c in
-    let second = sym second_place.author_after-2.ensures ∙ ap place_of second_place.in_default-author_after.is in
+    let first = sym c.author_after.ensures ∙ ap place_of c.in_default.is in
+    let second = sym c.author_after-2.ensures ∙ ap place_of c.in_default-author_after.is in
     let third = sym c.author_after-3.ensures ∙ ap place_of c.in-At-author_after-2.is in
     rw (first, second, third)
 
 pub returns : goal.returns
 unfolding head_at
 returns c =
-    let first_place = c in
-    let first = sym first_place.author_after.ensures ∙ ap place_of first_place.in_default.is in
-    let second_place = c in
-    let second = sym second_place.author_after-2.ensures ∙ ap place_of second_place.in_default-author_after.is in
+    let first = sym c.author_after.ensures ∙ ap place_of c.in_default.is in
+    let second = sym c.author_after-2.ensures ∙ ap place_of c.in_default-author_after.is in
     let third = sym c.author_after-3.ensures ∙ ap place_of c.in_default-author_after-2.is in
     rw (first, second, third)

@@ -12,15 +12,13 @@ returns-in-At c = rw (sym c.phrase_at.ensures ∙ ap place_of c.in-At.is)
 pub returns-in-At-phrase_at : goal.returns-in-At-phrase_at
 unfolding notice_at
 returns-in-At-phrase_at c =
-    let first_place = c in
-    let first = sym first_place.phrase_at.ensures ∙ ap place_of first_place.in_default.is in
+    let first = sym c.phrase_at.ensures ∙ ap place_of c.in_default.is in
     let second = sym c.phrase_at-2.ensures ∙ ap place_of c.in-At-phrase_at.is in
     rw (first, second)
 
 pub returns : goal.returns
 unfolding notice_at
 returns c =
-    let first_place = c in
-    let first = sym first_place.phrase_at.ensures ∙ ap place_of first_place.in_default.is in
+    let first = sym c.phrase_at.ensures ∙ ap place_of c.in_default.is in
     let second = sym c.phrase_at-2.ensures ∙ ap place_of c.in_default-phrase_at.is in
     rw (first, second)

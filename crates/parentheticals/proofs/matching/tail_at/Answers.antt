@@ -12,27 +12,22 @@ returns-in_default c = rw (sym c.phrase_at.ensures ∙ ap place_of c.in_default.
 pub returns-in_default-date_at : goal.returns-in_default-date_at
 unfolding tail_at
 returns-in_default-date_at c =
-    let first_place = c in
-    let first = sym first_place.phrase_at.ensures ∙ ap place_of first_place.in-At.is in
+    let first = sym c.phrase_at.ensures ∙ ap place_of c.in-At.is in
     let second = sym c.date_at.ensures ∙ ap place_of c.in_default-date_at.is in
     rw (first, second)
 
 pub returns-in_default-phrase_at : goal.returns-in_default-phrase_at
 unfolding tail_at
 returns-in_default-phrase_at c =
-    let first_place = c in
-    let first = sym first_place.phrase_at.ensures ∙ ap place_of first_place.in-At.is in
-    let second_place = c in
-    let second = sym second_place.date_at.ensures ∙ ap place_of second_place.in-At-date_at.is in
+    let first = sym c.phrase_at.ensures ∙ ap place_of c.in-At.is in
+    let second = sym c.date_at.ensures ∙ ap place_of c.in-At-date_at.is in
     let third = sym c.phrase_at-2.ensures ∙ ap place_of c.in_default-phrase_at.is in
     rw (first, second, third)
 
 pub returns : goal.returns
 unfolding tail_at
 returns c =
-    let first_place = c in
-    let first = sym first_place.phrase_at.ensures ∙ ap place_of first_place.in-At.is in
-    let second_place = c in
-    let second = sym second_place.date_at.ensures ∙ ap place_of second_place.in-At-date_at.is in
+    let first = sym c.phrase_at.ensures ∙ ap place_of c.in-At.is in
+    let second = sym c.date_at.ensures ∙ ap place_of c.in-At-date_at.is in
     let third = sym c.phrase_at-2.ensures ∙ ap place_of c.in-At-phrase_at.is in
     rw (first, second, third)

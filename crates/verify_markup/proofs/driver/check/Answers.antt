@@ -28,7 +28,9 @@ use Rattle.verify_markup.proofs.driver.check.Goals.{After-check_tables, After-fi
 
 pub returns-in-Refused : goal.returns-in-Refused
 unfolding check_refusal
-returns-in-Refused c = let s = c in let both = given_refused _ _ diag_width _ _ (the_one _ _ (rw c.in-Refused.is at s.check_span.ensures)) in record { answer = both.0; left = both.1 }
+returns-in-Refused c =
+    let both = given_refused _ _ diag_width _ _ (the_one _ _ (rw c.in-Refused.is at c.check_span.ensures)) in
+    record { answer = both.0; left = both.1 }
 
 -- the span is not refused
 module _ (c : In_default) where
@@ -38,7 +40,8 @@ module _ (c : In_default) where
 pub returns-in-Refused-check_tables : goal.returns-in-Refused-check_tables
 unfolding check_refusal
 returns-in-Refused-check_tables c =
-    let t = (goal.at.returns-in-Refused-check_tables c).After-check_tables in let both = given_refused _ _ diag_width _ _ (rw c.in-Refused-check_tables.is at t.check_tables.ensures ∙ the_other _ (span_good (goal.at.returns-in-Refused-check_tables c).In_default)) in record { answer = both.0; left = both.1 }
+    let both = given_refused _ _ diag_width _ _ (rw c.in-Refused-check_tables.is at c.check_tables.ensures ∙ the_other _ (span_good (goal.at.returns-in-Refused-check_tables c).In_default)) in
+    record { answer = both.0; left = both.1 }
 
 -- no table is refused
 module _ (c : In_default-check_tables) where
@@ -99,7 +102,13 @@ module _ (c : After-fill_lines) where
       ∙ ap (λ (ws : List (List ℕ)). laid diag_width (lined a.buf.now ws) a.out.now) (all_same told)
 
 pub returns-then-n-out : goal.returns-then-n-out
-returns-then-n-out c = let f = (goal.at.returns-then-n-out c).After-fill_lines in let both = listed_done diag_width _ _ (counted f) (filled_in f) _ (good (told f)) (omega arith) in record { answer = both.0; left = both.1 }
+returns-then-n-out c =
+    let f = (goal.at.returns-then-n-out c).After-fill_lines in
+    let both = listed_done diag_width _ _ (counted f) (filled_in f) _ (good (told f)) (omega arith) in
+    record { answer = both.0; left = both.1 }
 
 pub returns-else-n-out : goal.returns-else-n-out
-returns-else-n-out c = let f = (goal.at.returns-else-n-out c).After-fill_lines in let both = listed_short diag_width _ _ (counted f) (filled_in f) _ (good (told f)) (omega arith) in record { answer = both.0; left = both.1 }
+returns-else-n-out c =
+    let f = (goal.at.returns-else-n-out c).After-fill_lines in
+    let both = listed_short diag_width _ _ (counted f) (filled_in f) _ (good (told f)) (omega arith) in
+    record { answer = both.0; left = both.1 }

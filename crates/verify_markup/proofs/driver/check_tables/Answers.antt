@@ -20,19 +20,16 @@ module _ (c : In_default) where
 pub returns-in-Refused-check_table : goal.returns-in-Refused-check_table
 unfolding tables_refusal
 returns-in-Refused-check_table c =
-    let second = (goal.at.returns-in-Refused-check_table c).After-check_table-2 in
-    the_one _ _ (rw c.in-Refused-check_table.is at second.check_table-2.ensures) ∙ the_other _ (symbols_good (goal.at.returns-in-Refused-check_table c).In_default)
+    the_one _ _ (rw c.in-Refused-check_table.is at c.check_table-2.ensures) ∙ the_other _ (symbols_good (goal.at.returns-in-Refused-check_table c).In_default)
 
 pub returns-in-LookedUp : goal.returns-in-LookedUp
 unfolding tables_refusal
 returns-in-LookedUp c =
-    let second = (goal.at.returns-in-LookedUp c).After-check_table-2 in
-    let labels_good = rw c.in_default-check_table.is at second.check_table-2.ensures in
+    let labels_good = rw c.in_default-check_table.is at c.check_table-2.ensures in
     rw c.in-LookedUp.is (c.check_table-in-LookedUp.ensures ∙ the_other _ labels_good ∙ the_other _ (symbols_good (goal.at.returns-in-LookedUp c).In_default))
 
 pub returns-in-NotLookedUp : goal.returns-in-NotLookedUp
 unfolding tables_refusal
 returns-in-NotLookedUp c =
-    let second = (goal.at.returns-in-NotLookedUp c).After-check_table-2 in
-    let labels_good = rw c.in_default-check_table.is at second.check_table-2.ensures in
+    let labels_good = rw c.in_default-check_table.is at c.check_table-2.ensures in
     rw c.in-NotLookedUp.is (the_other _ labels_good ∙ the_other _ (symbols_good (goal.at.returns-in-NotLookedUp c).In_default))

@@ -18,22 +18,20 @@ use Rattle.verify_markup.proofs.driver.lay_all.Goals.{After-lay_item-wrote, Afte
 
 pub loop-after-init : goal.loop-after-init
 loop-after-init c =
-    let s = c in
-    let a = s.args in
-    rw c.new-st.ensures (going_starts a.reading _ a.buf.now a.start a.end a.out.now c.nothing-note.result c.nothing-note.ensures.1 (record { short = s.requires.short; inside = s.requires.order; fits = s.requires.inside }))
+    let a = c.args in
+    rw c.new-st.ensures (going_starts a.reading _ a.buf.now a.start a.end a.out.now c.nothing-note.result c.nothing-note.ensures.1 (record { short = c.requires.short; inside = c.requires.order; fits = c.requires.inside }))
 
 pub offset_bounds-out-at : goal.offset_bounds-out-at
-offset_bounds-out-at c = let l = c in omega (arith, l.loop-after.invariant.laying.inside, l.loop-after.invariant.laying.long, l.well_formed)
+offset_bounds-out-at c = omega (arith, c.loop-after.invariant.laying.inside, c.loop-after.invariant.laying.long, c.well_formed)
 
 -- what the answer to the state at the loop's head tells, since that is accepted
-says : (c : After-next_within-noted) → let l = c in NextBy l.args.buf.now l.loop-after.st l.loop-after.note c.next_within-noted.result
+says : (c : After-next_within-noted) → NextBy c.args.buf.now c.loop-after.st c.loop-after.note c.next_within-noted.result
 says c = within_says c.loop-after.invariant.accepted c.next_within-noted.ensures
 
 pub lay_item-wrote-requires : goal.lay_item-wrote-requires
 lay_item-wrote-requires c =
-    let e = c in
     let k = (goal.at.lay_item-wrote-requires c).After-next_within-noted in
-    (k.requires.short, along_inside k.loop-after.invariant.along (says k) e.in-Event.is)
+    (k.requires.short, along_inside k.loop-after.invariant.along (says k) c.in-Event.is)
 
 -- the reading that the first state names is the one that was asked for
 abbrev rd : At-loop-after → Reading
@@ -86,25 +84,21 @@ pub loop-after-preserved : goal.loop-after-preserved
 loop-after-preserved c = rw c.after-modes.ensures (turned (goal.at.loop-after-preserved c).After-lay_item-wrote).1
 
 pub offset_bounds-out-at-2 : goal.offset_bounds-out-at-2
-offset_bounds-out-at-2 c = let l = c in omega (arith, l.loop-after.invariant.laying.inside, l.loop-after.invariant.laying.long, l.well_formed)
+offset_bounds-out-at-2 c = omega (arith, c.loop-after.invariant.laying.inside, c.loop-after.invariant.laying.long, c.well_formed)
 
 pub lay_last-last-requires : goal.lay_last-last-requires
 lay_last-last-requires c =
-    let l = c in
-    let s = c in
-    (l.loop-after.invariant.opened.0, l.loop-after.invariant.opened.1, omega (arith, s.requires.inside, s.requires.short))
+    (c.loop-after.invariant.opened.0, c.loop-after.invariant.opened.1, omega (arith, c.requires.inside, c.requires.short))
 
 pub overflow_add-result : goal.overflow_add-result
 overflow_add-result c =
-    let z = c in
-    let l = c in
-    let a = l.args in
-    omega (arith, l.loop-after.invariant.few, did_count (few_last a.end l.loop-after.modes) _ _ z.lay_last-last.result (z.lay_last-last.ensures.wrote, z.lay_last-last.ensures.left))
+    let a = c.args in
+    omega (arith, c.loop-after.invariant.few, did_count (few_last a.end c.loop-after.modes) _ _ c.lay_last-last.result (c.lay_last-last.ensures.wrote, c.lay_last-last.ensures.left))
 
 pub returns : goal.returns
 returns c =
-    let z = c in
-    let m = c in
     let k = (goal.at.returns c).After-next_within-noted in
     let g = k.loop-after.invariant in
-    let a = k.args in let both = last_laid (rw (is_asked (goal.at.returns c).At-loop-after) at (going_ends g (along_end g.along (says k) m.in_default.not-Event))) (few_last a.end k.loop-after.modes) z.lay_last-last.result _ (z.lay_last-last.ensures.wrote, z.lay_last-last.ensures.left) in record { count = both.0; left = both.1 }
+    let a = k.args in
+    let both = last_laid (rw (is_asked (goal.at.returns c).At-loop-after) at (going_ends g (along_end g.along (says k) c.in_default.not-Event))) (few_last a.end k.loop-after.modes) c.lay_last-last.result _ (c.lay_last-last.ensures.wrote, c.lay_last-last.ensures.left) in
+    record { count = both.0; left = both.1 }

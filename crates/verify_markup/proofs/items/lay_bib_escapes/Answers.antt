@@ -20,7 +20,7 @@ pub loop-i-init : goal.loop-i-init
 loop-i-init c = (omega arith, omega arith, laying_starts diag_width _ _)
 
 pub offset_bounds-room-at : goal.offset_bounds-room-at
-offset_bounds-room-at c = let l = c in omega (arith, l.loop-i.invariant.2.inside, l.loop-i.invariant.2.long, l.well_formed)
+offset_bounds-room-at c = omega (arith, c.loop-i.invariant.2.inside, c.loop-i.invariant.2.long, c.well_formed)
 
 either : {a b x y : Bool} → a ≡ x → b ≡ y → (a || b) ≡ (x || y)
 either p q = rw (p, q)
@@ -68,8 +68,7 @@ overflow_add-n c = omega (arith, one (goal.at.overflow_add-n c).After-lay_if-wro
 pub loop-i-preserved : goal.loop-i-preserved
 loop-i-preserved c =
     let w = (goal.at.loop-i-preserved c).After-lay_if-wrote in
-    let l = c in
-    (omega (arith, one w, l.loop-i.invariant.0), omega arith, (turn w).1)
+    (omega (arith, one w, c.loop-i.invariant.0), omega arith, (turn w).1)
 
 pub returns : goal.returns
 returns c =

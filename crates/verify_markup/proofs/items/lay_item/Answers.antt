@@ -28,25 +28,25 @@ pub lay_tag-requires : goal.lay_tag-requires
 lay_tag-requires c = let p = c.requires in let w = rw c.in-BibTag.is at p.1 in record { order = w.ordered; inside = w.below; short = p.0 }
 
 pub returns-in-Text : goal.returns-in-Text
-returns-in-Text c = let w = c in record { wrote = rw w.in-Text.is w.lay_written.ensures.wrote; left = rw w.in-Text.is w.lay_written.ensures.left }
+returns-in-Text c = record { wrote = rw c.in-Text.is c.lay_written.ensures.wrote; left = rw c.in-Text.is c.lay_written.ensures.left }
 
 pub returns-in-StartMathMode : goal.returns-in-StartMathMode
-returns-in-StartMathMode c = let w = c in record { wrote = rw w.in-StartMathMode.is w.lay_after.ensures.wrote; left = rw w.in-StartMathMode.is w.lay_after.ensures.left }
+returns-in-StartMathMode c = record { wrote = rw c.in-StartMathMode.is c.lay_after.ensures.wrote; left = rw c.in-StartMathMode.is c.lay_after.ensures.left }
 
 pub returns-in-EndMathMode : goal.returns-in-EndMathMode
-returns-in-EndMathMode c = let w = c in record { wrote = rw w.in-EndMathMode.is w.lay_before.ensures.wrote; left = rw w.in-EndMathMode.is w.lay_before.ensures.left }
+returns-in-EndMathMode c = record { wrote = rw c.in-EndMathMode.is c.lay_before.ensures.wrote; left = rw c.in-EndMathMode.is c.lay_before.ensures.left }
 
 pub returns-in-MathToken : goal.returns-in-MathToken
-returns-in-MathToken c = let w = c in record { wrote = rw w.in-MathToken.is w.lay_token.ensures.wrote; left = rw w.in-MathToken.is w.lay_token.ensures.left }
+returns-in-MathToken c = record { wrote = rw c.in-MathToken.is c.lay_token.ensures.wrote; left = rw c.in-MathToken.is c.lay_token.ensures.left }
 
 pub returns-in-Label : goal.returns-in-Label
-returns-in-Label c = let w = c in record { wrote = rw w.in-Label.is w.lay_label.ensures.wrote; left = rw w.in-Label.is w.lay_label.ensures.left }
+returns-in-Label c = record { wrote = rw c.in-Label.is c.lay_label.ensures.wrote; left = rw c.in-Label.is c.lay_label.ensures.left }
 
 pub returns-in-Url : goal.returns-in-Url
-returns-in-Url c = let w = c in record { wrote = rw w.in-Url.is w.lay_link.ensures.wrote; left = rw w.in-Url.is w.lay_link.ensures.left }
+returns-in-Url c = record { wrote = rw c.in-Url.is c.lay_link.ensures.wrote; left = rw c.in-Url.is c.lay_link.ensures.left }
 
 pub returns-in-BibTag : goal.returns-in-BibTag
-returns-in-BibTag c = let w = c in record { wrote = rw w.in-BibTag.is w.lay_tag.ensures.wrote; left = rw w.in-BibTag.is w.lay_tag.ensures.left }
+returns-in-BibTag c = record { wrote = rw c.in-BibTag.is c.lay_tag.ensures.wrote; left = rw c.in-BibTag.is c.lay_tag.ensures.left }
 
 pub returns-in_default : goal.returns-in_default
 unfolding laid used
@@ -61,4 +61,5 @@ returns-in_default c =
       no_label = c.in_default.not-Label;
       no_url = c.in_default.not-Url;
       no_tag = c.in_default.not-BibTag;
-    }) in record { wrote = rw none; left = rw none }
+    }) in
+    record { wrote = rw none; left = rw none }

@@ -6,4 +6,4 @@ use Rattle.verify_markup.proofs.items.lay_token.Goals as goal
 
 pub returns : goal.returns
 unfolding token_diags spelled
-returns c = let w = c in record { wrote = rw (token_diags, ← w.lacks-unknown.ensures) w.lay_if.ensures.wrote; left = rw (token_diags, ← w.lacks-unknown.ensures) w.lay_if.ensures.left }
+returns c = record { wrote = rw (token_diags, ← c.lacks-unknown.ensures) c.lay_if.ensures.wrote; left = rw (token_diags, ← c.lacks-unknown.ensures) c.lay_if.ensures.left }

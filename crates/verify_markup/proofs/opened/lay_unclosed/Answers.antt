@@ -9,7 +9,7 @@ pub lay_if-requires : goal.lay_if-requires
 lay_if-requires c = (rw c.in-At.is at c.requires.0, c.requires.1, omega arith)
 
 pub returns-in-At : goal.returns-in-At
-returns-in-At c = let w = c in record { wrote = rw w.in-At.is w.lay_if.ensures.wrote; left = rw w.in-At.is w.lay_if.ensures.left }
+returns-in-At c = record { wrote = rw c.in-At.is c.lay_if.ensures.wrote; left = rw c.in-At.is c.lay_if.ensures.left }
 
 pub returns-in-Nowhere : goal.returns-in-Nowhere
 unfolding laid used

@@ -19,29 +19,25 @@ loop-i-init c =
 
 pub overflow_add-result : goal.overflow_add-result
 overflow_add-result c =
-    let t = c in
-    omega (arith, c.html_len-len.ensures, len_within t.args.text.now t.loop-i.i t.loop-i.invariant.0)
+    omega (arith, c.html_len-len.ensures, len_within c.args.text.now c.loop-i.i c.loop-i.invariant.0)
 
 pub returns-then-len-ne0 : goal.returns-then-len-ne0
-returns-then-len-ne0 c = let t = c in html_here _ _ t.loop-i-test.true _ c.html_len-len.ensures c.if-len-ne0.true ∙ t.loop-i.invariant.1
+returns-then-len-ne0 c = html_here _ _ c.loop-i-test.true _ c.html_len-len.ensures c.if-len-ne0.true ∙ c.loop-i.invariant.1
 
 pub loop-i-smaller : goal.loop-i-smaller
 loop-i-smaller c =
-    let l = c in
-    let s = l.args.text.now in
-    let h : l.loop-i.i + 1 ≤ length s = omega (arith, c.loop-i-test.true) in
-    omega (arith, c.plain_end-i-in-loop-i.ensures, scan_ge (plain_step s) (length s) (l.loop-i.i + 1) (l.loop-i.i + 1) (le_refl (l.loop-i.i + 1)) h)
+    let s = c.args.text.now in
+    let h : c.loop-i.i + 1 ≤ length s = omega (arith, c.loop-i-test.true) in
+    omega (arith, c.plain_end-i-in-loop-i.ensures, scan_ge (plain_step s) (length s) (c.loop-i.i + 1) (c.loop-i.i + 1) (le_refl (c.loop-i.i + 1)) h)
 
 pub loop-i-preserved : goal.loop-i-preserved
 loop-i-preserved c =
-    let t = c in
-    let l = c in
-    let s = l.args.text.now in
+    let s = c.args.text.now in
     let e = c.plain_end-i-in-loop-i.ensures in
-    let on = html_on _ _ t.loop-i-test.true (sym c.html_len-len.ensures ∙ c.if-len-ne0.false) in (
-      omega (arith, e, scan_le (plain_step s) (length s) (l.loop-i.i + 1)),
-      sym (on ∙ html_skip s (l.loop-i.i + 1) c.plain_end-i-in-loop-i.result e (omega (arith, t.loop-i-test.true))) ∙ l.loop-i.invariant.1,
+    let on = html_on _ _ c.loop-i-test.true (sym c.html_len-len.ensures ∙ c.if-len-ne0.false) in (
+      omega (arith, e, scan_le (plain_step s) (length s) (c.loop-i.i + 1)),
+      sym (on ∙ html_skip s (c.loop-i.i + 1) c.plain_end-i-in-loop-i.result e (omega (arith, c.loop-i-test.true))) ∙ c.loop-i.invariant.1,
     )
 
 pub returns : goal.returns
-returns c = let l = c in html_over _ _ c.loop-i-test.false ∙ l.loop-i.invariant.1
+returns c = html_over _ _ c.loop-i-test.false ∙ c.loop-i.invariant.1

@@ -41,4 +41,5 @@ lay_if-requires c =
 
 pub returns : goal.returns
 unfolding html_in
-returns c = let m = (goal.at.returns c).After-first_html-mark in record { wrote = rw (html_in, ← mark_is m) c.lay_if.ensures.wrote; left = rw (html_in, ← mark_is m) c.lay_if.ensures.left }
+returns c = let m = (goal.at.returns c).After-first_html-mark in
+    record { wrote = rw (html_in, ← mark_is m) c.lay_if.ensures.wrote; left = rw (html_in, ← mark_is m) c.lay_if.ensures.left }

@@ -45,7 +45,7 @@ loop-i-init c =
     )
 
 pub offset_bounds-room-at : goal.offset_bounds-room-at
-offset_bounds-room-at c = let l = c in omega (arith, l.loop-i.invariant.1.inside, l.loop-i.invariant.1.long, l.well_formed)
+offset_bounds-room-at c = omega (arith, c.loop-i.invariant.1.inside, c.loop-i.invariant.1.long, c.well_formed)
 
 -- after `lay_if`: the record, if there was one, is laid, and the rest is to come
 module _ (c : After-lay_if-wrote) where

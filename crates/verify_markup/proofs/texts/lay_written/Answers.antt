@@ -9,39 +9,32 @@ use Rattle.verify_markup.proofs.texts.lay_written.Goals as goal
 
 pub offset_bounds-room-at : goal.offset_bounds-room-at
 offset_bounds-room-at c =
-    let w = c in
-    let a = w.args in
-    omega (arith, did_inside (few_lone a.buf.now a.kind a.end (a.end - a.start) a.start) _ _ _ (w.lay_lone-lone.ensures.wrote, w.lay_lone-lone.ensures.left), w.well_formed)
+    let a = c.args in
+    omega (arith, did_inside (few_lone a.buf.now a.kind a.end (a.end - a.start) a.start) _ _ _ (c.lay_lone-lone.ensures.wrote, c.lay_lone-lone.ensures.left), c.well_formed)
 
 pub slice_bounds-lay_html-count : goal.slice_bounds-lay_html-count
 slice_bounds-lay_html-count c =
-    let w = c in
-    let a = w.args in
-    (did_inside (few_lone a.buf.now a.kind a.end (a.end - a.start) a.start) _ _ _ (w.lay_lone-lone.ensures.wrote, w.lay_lone-lone.ensures.left)).0
+    let a = c.args in
+    (did_inside (few_lone a.buf.now a.kind a.end (a.end - a.start) a.start) _ _ _ (c.lay_lone-lone.ensures.wrote, c.lay_lone-lone.ensures.left)).0
 
 pub slice_bounds-lay_html-start : goal.slice_bounds-lay_html-start
 slice_bounds-lay_html-start c =
-    let w = c in
-    let a = w.args in
-    (did_inside (few_lone a.buf.now a.kind a.end (a.end - a.start) a.start) _ _ _ (w.lay_lone-lone.ensures.wrote, w.lay_lone-lone.ensures.left)).0
+    let a = c.args in
+    (did_inside (few_lone a.buf.now a.kind a.end (a.end - a.start) a.start) _ _ _ (c.lay_lone-lone.ensures.wrote, c.lay_lone-lone.ensures.left)).0
 
 pub overflow_add-result : goal.overflow_add-result
 overflow_add-result c =
-    let z = c in
-    let w = c in
-    let a = w.args in
-    omega (arith, pair_words (few_lone a.buf.now a.kind a.end (a.end - a.start) a.start) (few_html a.buf.now a.start a.end) _ _ _ _ _ (w.lay_lone-lone.ensures.wrote, w.lay_lone-lone.ensures.left) (z.lay_html-html.ensures.wrote, z.lay_html-html.ensures.left), w.well_formed)
+    let a = c.args in
+    omega (arith, pair_words (few_lone a.buf.now a.kind a.end (a.end - a.start) a.start) (few_html a.buf.now a.start a.end) _ _ _ _ _ (c.lay_lone-lone.ensures.wrote, c.lay_lone-lone.ensures.left) (c.lay_html-html.ensures.wrote, c.lay_html-html.ensures.left), c.well_formed)
 
 pub overflow_add-result-2 : goal.overflow_add-result-2
 overflow_add-result-2 c =
-    let z = c in
-    let w = c in
-    let a = w.args in
-    omega (arith, pair_count (few_lone a.buf.now a.kind a.end (a.end - a.start) a.start) (few_html a.buf.now a.start a.end) _ _ _ _ _ (w.lay_lone-lone.ensures.wrote, w.lay_lone-lone.ensures.left) (z.lay_html-html.ensures.wrote, z.lay_html-html.ensures.left))
+    let a = c.args in
+    omega (arith, pair_count (few_lone a.buf.now a.kind a.end (a.end - a.start) a.start) (few_html a.buf.now a.start a.end) _ _ _ _ _ (c.lay_lone-lone.ensures.wrote, c.lay_lone-lone.ensures.left) (c.lay_html-html.ensures.wrote, c.lay_html-html.ensures.left))
 
 pub returns : goal.returns
 unfolding written
 returns c =
-    let z = c in
-    let w = c in
-    let a = w.args in let both = pair_did (few_lone a.buf.now a.kind a.end (a.end - a.start) a.start) (few_html a.buf.now a.start a.end) _ _ _ _ _ (w.lay_lone-lone.ensures.wrote, w.lay_lone-lone.ensures.left) (z.lay_html-html.ensures.wrote, z.lay_html-html.ensures.left) in record { wrote = both.0; left = both.1 }
+    let a = c.args in
+    let both = pair_did (few_lone a.buf.now a.kind a.end (a.end - a.start) a.start) (few_html a.buf.now a.start a.end) _ _ _ _ _ (c.lay_lone-lone.ensures.wrote, c.lay_lone-lone.ensures.left) (c.lay_html-html.ensures.wrote, c.lay_html-html.ensures.left) in
+    record { wrote = both.0; left = both.1 }
