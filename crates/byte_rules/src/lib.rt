@@ -28,6 +28,7 @@ pub fn is_blank(c: u8) -> bool
 }
 
 // What may follow a subscript, a closing backtick or a label. None stands before `!` or behind `_`.
+#[tactic(auto, using(crate::proofs::MaskLaws::no_closer_before, crate::proofs::MaskLaws::no_closer_behind))]
 pub fn is_closer(c: u8) -> bool
     ensures { result ≡ is_closer c }
 {

@@ -90,6 +90,7 @@ fn put_unescaped(kind: Escape, text: &[u8], out: &mut [u8]) -> usize
 
 // The span of `buf`, unescaped, at the front of `out`: all of it or nothing. Doubling is looked for inside the span only.
 // A room of the span's length is enough, so only in a smaller one the bytes are counted before they are written.
+#[tactic(auto, unfolding(records::specs::Records::text_answer, records::specs::Records::text_left, records::specs::Records::put))]
 pub fn unescape(kind: Escape, buf: &[u8], start: usize, end: usize, out: &mut [u8]) -> Filled
     ensures answer { filled_answer result
         ≡ text_answer (span_refusal (length buf.now) start end) (unescaped (is_escape kind) (part buf.now start end)) (length out.old) }

@@ -4,7 +4,7 @@ use mathlib.Core.Path.{sym}
 use Prim.Native.Nat.{◌≤◌}
 use lib.ListN.{length}
 use native.Mathlib.Omega.{arith}
-use Rattle.records.proofs.Texts.{told_refused, told_short, told_done}
+use Rattle.records.proofs.Texts.{told_refused, told_done}
 use Rattle.records.proofs.Answers.{span_accepted}
 use Rattle.unescape.specs.Unescape.{is_escape, part, unescaped}
 use Rattle.unescape.proofs.Laws.{unescaped_length}
@@ -24,11 +24,6 @@ slice_bounds-text-start c = (span_accepted _ _ _ (sym (rw c.in_default.is at c.c
 
 pub slice_bounds-text-end : goal.slice_bounds-text-end
 slice_bounds-text-end c = (span_accepted _ _ _ (sym (rw c.in_default.is at c.check_span.ensures))).2
-
-pub returns-then-out-needed : goal.returns-then-out-needed
-returns-then-out-needed c =
-    let both = told_short _ _ _ _ (rw c.in_default.is at c.check_span.ensures) c.unescaped_len-needed.ensures c.if-out-needed.true in
-    record { answer = both.0; left = both.1 }
 
 -- the room is enough: it is as long as the text, or the bytes were counted
 enough : (c : Joined-out-text) → length (unescaped (is_escape c.args.kind) (part c.args.buf.now c.args.start c.args.end)) ≤ length c.args.out.now
