@@ -25,11 +25,12 @@ use Rattle.events.proofs.events.Goals.{After-fill_lines, After-lay_event-wrote, 
 abbrev refusal : Start → Option Answer
 refusal s = span_refusal (length s.args.buf.now) s.args.start s.args.end
 
+-- for each clause of its own, since a refusal answers and leaves the same whatever the records are
 pub returns-in-Refused : goal.returns-in-Refused
 returns-in-Refused c =
     let why = ap checked_answer (sym c.in-Refused.is) ∙ c.check_span.ensures in
-    let both = given_refused _ _ event_width _ c.args.out.now why in
-    record { answer = both.0; left = both.1 }
+    let room = c.args.out.now in
+    record { answer = (given_refused _ _ event_width _ room why).0; left = (given_refused _ _ event_width _ room why).1 }
 
 good : (c : In_default) → none ≡ refusal (goal.at.In_default c).Start
 good c = ap checked_answer (sym c.in_default.is) ∙ c.check_span.ensures
