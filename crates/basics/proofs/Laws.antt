@@ -10,8 +10,7 @@ use native.Mathlib.Omega.{arith}
 use lib.ListN.{length, take, drop, length-drop}
 use lib.Seq.{take_all}
 use Rattle.basics.specs.Choice.{or_else}
-use Rattle.basics.specs.declared.Place.{Place}
-use Rattle.basics.specs.declared.Place.TheVariants.{At, Nowhere}
+use Rattle.std.specs.Prelude.{Option as Maybe, Some, None}
 
 -- where the facts at hand would make 0 and 1 equal (`cc` finds it), nothing is left to show: `absurd (differ cc)`
 pub differ : ◌≡◌ {A = ℕ} 0 1 → ⊥
@@ -43,9 +42,9 @@ by_test P true f g = f refl
 by_test P false f g = g refl
 
 -- the same of a choice by a place that may be missing
-pub by_place : {A : Type 0} (P : A → Type 0) (c : Place) {x : ℕ → A} {y : A} → ((q : ℕ) → c ≡ At q → P (x q)) → (c ≡ Nowhere → P y) → P (elim c [ At q ↦ x q | Nowhere ↦ y ])
-by_place P (At q) f g = f q refl
-by_place P Nowhere f g = g refl
+pub by_place : {A : Type 0} (P : A → Type 0) (c : Maybe ℕ) {x : ℕ → A} {y : A} → ((q : ℕ) → c ≡ Some q → P (x q)) → (c ≡ None → P y) → P (elim c [ Some q ↦ x q | None ↦ y ])
+by_place P (Some q) f g = f q refl
+by_place P None f g = g refl
 
 -- the first of two that is there: the one, or, where that is missing, the other
 pub the_one : {A : Type 0} {x : Option A} (y : Option A) (a : A) → some a ≡ x → some a ≡ or_else x y

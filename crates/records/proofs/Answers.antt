@@ -12,10 +12,9 @@ use Rattle.basics.proofs.Laws.{differ}
 use Rattle.records.specs.Answer.{Answer, refusal_answer, filled_answer, checked_answer, too_long, bad_span, bad_state, input_too_long, longest, input_limit, length_refusal, span_refusal, state_refusal, input_refusal}
 use Rattle.records.specs.declared.Refusal.{Refusal}
 use Rattle.records.specs.declared.Refusal.TheVariants.{TooLong, BadSpan, BadState, BadTable, NoDate, BadMonth, InputTooLong}
-use Rattle.records.specs.declared.Filled.{Filled}
-use Rattle.records.specs.declared.Filled.TheVariants.{Done, Short, Refused}
-use Rattle.records.specs.declared.Checked.{Checked}
-use Rattle.records.specs.declared.Checked.TheVariants as checked
+use Rattle.records.specs.declared.FillError.{FillError}
+use Rattle.records.specs.declared.FillError.TheVariants.{Short, Refused}
+use Rattle.std.specs.Prelude.{Result, Ok, Err}
 
 -- two outcomes with one answer are one, where the outcome can be read back from its answer
 pub coincide : {A B : Type 0} (answer : A → B) (back : B → A) → ((x : A) → back (answer x) ≡ x) → (b : B) (x y : A) → answer x ≡ b → answer y ≡ b → x ≡ y
@@ -58,29 +57,29 @@ read_back done refused a = cond (eqb a.number 0) (done a.values) (refused (refus
 pub refused_back : {A : Type 0} (done : List ℕ → A) (refused : Refusal → A) (r : Refusal) → read_back done refused (refusal_answer r) ≡ refused r
 refused_back done refused r = rw (refusal_number_lem r).0 (ap refused (refusal_back_lem r))
 
-filled_back : Answer → Filled
-filled_back a = cond (eqb a.number 7) (Short (get_or a.values 0 0)) (read_back (λ values. Done (get_or values 0 0)) Refused a)
+filled_back : Answer → Result ℕ FillError
+filled_back a = cond (eqb a.number 7) (Err (Short (get_or a.values 0 0))) (read_back (λ values. Ok (get_or values 0 0)) (λ r. Err (Refused r)) a)
 
-filled_back_lem : (r : Filled) → filled_back (filled_answer r) ≡ r
+filled_back_lem : (r : Result ℕ FillError) → filled_back (filled_answer r) ≡ r
 unfolding filled_back
-filled_back_lem (Done n) = refl
-filled_back_lem (Short n) = refl
-filled_back_lem (Refused r) = rw (refusal_number_lem r).1 (refused_back (λ values. Done (get_or values 0 0)) Refused r)
+filled_back_lem (Ok n) = refl
+filled_back_lem (Err (Short n)) = refl
+filled_back_lem (Err (Refused r)) = rw (refusal_number_lem r).1 (refused_back (λ values. Ok (get_or values 0 0)) (λ r. Err (Refused r)) r)
 
-checked_back : Option Answer → Checked
-checked_back none = checked.Good
-checked_back (some a) = checked.Refused (refusal_back a)
+checked_back : Option Answer → Result Unit Refusal
+checked_back none = Ok tt
+checked_back (some a) = Err (refusal_back a)
 
-checked_back_lem : (r : Checked) → checked_back (checked_answer r) ≡ r
+checked_back_lem : (r : Result Unit Refusal) → checked_back (checked_answer r) ≡ r
 unfolding checked_back
-checked_back_lem checked.Good = refl
-checked_back_lem (checked.Refused r) = ap checked.Refused (refusal_back_lem r)
+checked_back_lem (Ok u) = refl
+checked_back_lem (Err r) = ap (λ (x : Refusal). Err x) (refusal_back_lem r)
 
 -- two outcomes of a call that the same contract permits
-pub filled_one : (a : Answer) (x y : Filled) → filled_answer x ≡ a → filled_answer y ≡ a → x ≡ y
+pub filled_one : (a : Answer) (x y : Result ℕ FillError) → filled_answer x ≡ a → filled_answer y ≡ a → x ≡ y
 filled_one = coincide filled_answer filled_back filled_back_lem
 
-pub checked_one : (a : Option Answer) (x y : Checked) → checked_answer x ≡ a → checked_answer y ≡ a → x ≡ y
+pub checked_one : (a : Option Answer) (x y : Result Unit Refusal) → checked_answer x ≡ a → checked_answer y ≡ a → x ≡ y
 checked_one = coincide checked_answer checked_back checked_back_lem
 
 -- none of the tests of a refusal held

@@ -1,17 +1,13 @@
 -- Two writers, one after the other: the second is lent the tail behind what the first wrote, and together they laid both lists.
 -- Assumes nothing.
-use Prim.Native.Nat.{ℕ, ◌+◌}
+use Prim.Native.Nat.{ℕ}
 use mathlib.Core.Path.{◌≡◌, sym, ap, ◌∙◌}
 use mathlib.Core.List.{List, ◌++◌}
 use lib.ListN.{length, drop, length-append}
-use Rattle.records.specs.Records.{laid, used, wrote_of}
+use Rattle.records.specs.Records.{laid, used, wrote_of, sum}
 use Rattle.records.specs.declared.Wrote.{Wrote}
 use Rattle.records.proofs.Laws.{Wide, laid_append}
 use Rattle.records.proofs.Laying.{tail, back, tail_is, back_is}
-
--- what both did
-abbrev pub sum : Wrote → Wrote → Wrote
-sum a b = record { words = a.words + b.words; count = a.count + b.count }
 
 -- `mid` is the room after the first, and `last` the tail after the second
 module _ (k : ℕ) (ws vs : List (List ℕ)) (room mid last : List ℕ) (wide : Wide k ws) (a b : Wrote)

@@ -1,7 +1,7 @@
 -- A list writer's loop: what holds while records of k words are laid one after the other, the law of a turn, and the answers.
 -- Assumes nothing.
 use mathlib.Core.Path.{◌≡◌, refl, sym, ap, ◌∙◌}
-use mathlib.Core.Bool.{true, false}
+use mathlib.Core.Bool.{Bool, true, false, cond}
 use Prim.Native.Nat.{ℕ, ◌+◌, ◌-◌, ◌*◌, ◌≤◌, ◌<◌}
 use native.Mathlib.Nat.{add-zero}
 use native.Mathlib.Omega.{arith}
@@ -9,11 +9,15 @@ use mathlib.Core.List.{List, [], ◌∷◌, ◌++◌, append_assoc, append-nil}
 use lib.Dec.{leb}
 use lib.ListN.{length, take, drop, length-append, length-drop, take-append-drop, drop_of_length-le}
 use lib.Seq.{length-take-le, take-append-add, drop-append-add}
-use borrow.Author.Tests.{le-leb, lt-leb}
+use borrow.Author.Tests.{le-leb, lt-leb, leb-true, leb-false}
 use borrow.Rule.Slice.PartMut.{mid_of, put_mid}
 use mathlib.Core.Option.{Option, none, some}
+use Rattle.std.specs.Prelude.{◌/◌, Result, Ok, Err}
+use Rattle.std.proofs.Math.Nat.{mul-le-mul_left}
 use Rattle.basics.proofs.Laws.{rest_is}
-use Rattle.records.specs.Answer.{Answer, done, short}
+use Rattle.records.specs.Answer.{Answer, done, short, filled_answer}
+use Rattle.records.specs.declared.FillError.{FillError}
+use Rattle.records.specs.declared.FillError.TheVariants.{Short}
 use Rattle.records.specs.declared.Wrote.{Wrote}
 use Rattle.records.specs.Records.{put, laid, used, wrote_of, list_answer, list_left}
 use Rattle.records.proofs.Laws.{Wide, put_is, laid_append, laid_long, used_one, used_none}
@@ -106,6 +110,14 @@ module _ (k : ℕ) (ws : List (List ℕ)) (out₀ : List ℕ) {out : List ℕ} {
   unfolding list_answer list_left
   listed_short h = rw (← good, ← counted) (simp (lt-leb _ _ h), is)
 
+  -- what `fits` tells of the count
+  pub listed_fits : 0 < k → (x : Result ℕ FillError) → x ≡ cond (leb n (length out₀ / k)) (Ok n) (Err (Short n)) → Given (filled_answer x) out r k ws out₀
+  listed_fits some_words x told = go (leb n (length out₀ / k)) refl
+    where
+      go : (t : Bool) → leb n (length out₀ / k) ≡ t → Given (filled_answer x) out r k ws out₀
+      go true t = rw (told, t) (listed_done (omega (arith, mul-le-mul_left k (leb-true n (length out₀ / k) t))))
+      go false t = rw (told, t) (listed_short (omega (arith, mul-le-mul_left k (leb-false n (length out₀ / k) t))))
+
 -- at the end of a writer's loop nothing is to come
 module _ {k : ℕ} {all : List (List ℕ)} {out₀ out : List ℕ} {at n : ℕ} (l : Laying k all [] out₀ out at n) where
   pub all_counted : n ≡ length all
@@ -127,3 +139,7 @@ module _ {k : ℕ} {all : List (List ℕ)} {out₀ out : List ℕ} {at n : ℕ} 
 
   pub given_short : (r : Option Answer) → none ≡ r → length out < k * n → Given (short n) out r k all out₀
   given_short r e h = listed_short k all out₀ all_counted all_laid r e (omega (arith, l.long))
+
+  pub given_fits : 0 < k → (r : Option Answer) → none ≡ r → (x : Result ℕ FillError) → x ≡ cond (leb n (length out / k)) (Ok n) (Err (Short n))
+      → Given (filled_answer x) out r k all out₀
+  given_fits some_words r e x is = listed_fits k all out₀ all_counted all_laid r e some_words x (rw (← l.long) is)

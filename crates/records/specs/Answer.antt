@@ -1,12 +1,10 @@
 -- Document 01's answers: a number of its table, with the values that the answer gives.
-use Rattle.std.specs.Prelude.{ℕ, cond, ◌||◌, List, [], ◌∷◌, ltb}
+use Rattle.std.specs.Prelude.{ℕ, cond, ◌||◌, List, [], ◌∷◌, ltb, Result, Ok, Err}
 use Rattle.std.proofs.Math.Option.{Option, none, some}
 use Rattle.records.specs.declared.Refusal.{Refusal}
 use Rattle.records.specs.declared.Refusal.TheVariants.{TooLong, BadSpan, BadState, BadTable, NoDate, BadMonth, InputTooLong}
-use Rattle.records.specs.declared.Filled.{Filled}
-use Rattle.records.specs.declared.Filled.TheVariants.{Done, Short, Refused}
-use Rattle.records.specs.declared.Checked.{Checked}
-use Rattle.records.specs.declared.Checked.TheVariants as checked
+use Rattle.records.specs.declared.FillError.{FillError}
+use Rattle.records.specs.declared.FillError.TheVariants.{Short, Refused}
 
 pub record Answer : Type 0 where
   pub number : ℕ
@@ -65,15 +63,15 @@ refusal_answer NoDate = no_date
 refusal_answer BadMonth = bad_month
 refusal_answer InputTooLong = input_too_long
 
-abbrev pub filled_answer : Filled → Answer
-filled_answer (Done n) = done n
-filled_answer (Short n) = short n
-filled_answer (Refused r) = refusal_answer r
+abbrev pub filled_answer : Result ℕ FillError → Answer
+filled_answer (Ok n) = done n
+filled_answer (Err (Short n)) = short n
+filled_answer (Err (Refused r)) = refusal_answer r
 
 -- what a check finds: nothing, or the answer that refuses
-abbrev pub checked_answer : Checked → Option Answer
-checked_answer checked.Good = none
-checked_answer (checked.Refused r) = some (refusal_answer r)
+abbrev pub checked_answer : Result Unit Refusal → Option Answer
+checked_answer (Ok u) = none
+checked_answer (Err r) = some (refusal_answer r)
 
 -- an answer, or what is given beside it: by its refusal, or else as it is
 abbrev pub unless : {A : Type 0} → Option Answer → (Answer → A) → A → A
@@ -84,17 +82,25 @@ unless (some refusal) refused other = refused refusal
 abbrev pub longest : ℕ
 longest = 4294967295
 
+-- refused with this answer where there are more than so many
+abbrev pub limit_refusal : Answer → ℕ → ℕ → Option Answer
+limit_refusal why most len = cond (ltb most len) (some why) none
+
 -- the refusal of a buffer of so many bytes
 unfoldable pub length_refusal : ℕ → Option Answer
-length_refusal len = cond (ltb longest len) (some too_long) none
+length_refusal len = limit_refusal too_long longest len
 
--- the refusal of a span of a buffer of so many bytes; the lowest number
+-- the refusal of places of a buffer of so many bytes, by this answer where they are none of it; the lowest number
+abbrev pub places_refusal : Answer → ℕ → ℕ → ℕ → Option Answer
+places_refusal why len from to = cond (ltb longest len) (some too_long) (cond (ltb to from || ltb len to) (some why) none)
+
+-- the refusal of a span of a buffer of so many bytes
 unfoldable pub span_refusal : ℕ → ℕ → ℕ → Option Answer
-span_refusal len start end = cond (ltb longest len) (some too_long) (cond (ltb end start || ltb len end) (some bad_span) none)
+span_refusal len start end = places_refusal bad_span len start end
 
--- the refusal of a state at `pos` that reads to `end`, of a buffer of so many bytes; the lowest number
+-- the refusal of a state at `pos` that reads to `end`, of a buffer of so many bytes
 unfoldable pub state_refusal : ℕ → ℕ → ℕ → Option Answer
-state_refusal len pos end = cond (ltb longest len) (some too_long) (cond (ltb end pos || ltb len end) (some bad_state) none)
+state_refusal len pos end = places_refusal bad_state len pos end
 
 -- the largest input of a program
 abbrev pub input_limit : ℕ
@@ -102,4 +108,4 @@ input_limit = 65536
 
 -- the refusal of a program's input of so many bytes
 unfoldable pub input_refusal : ℕ → Option Answer
-input_refusal len = cond (ltb input_limit len) (some input_too_long) none
+input_refusal len = limit_refusal input_too_long input_limit len

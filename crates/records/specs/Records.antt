@@ -22,6 +22,10 @@ used k (w ∷ ws) room = cond (leb k room) (k + used k ws (room - k)) 0
 abbrev pub wrote_of : ℕ → List (List ℕ) → ℕ → Wrote
 wrote_of k ws room = record { words = used k ws room; count = length ws }
 
+-- what two writers did
+abbrev pub sum : Wrote → Wrote → Wrote
+sum a b = record { words = a.words + b.words; count = a.count + b.count }
+
 -- a list call's answer: its refusal, or else the count of its records, as 7 where they do not all fit
 unfoldable pub list_answer : Option Answer → ℕ → List (List ℕ) → ℕ → Answer
 list_answer (some refusal) k ws room = refusal
