@@ -1,5 +1,5 @@
 -- The laws of the masks: those of all bytes as one list, carried to each byte; what each bit of a mask says; and the bytes whose class one
--- comparison tells, so that the code need not read the table for them.
+-- comparison tells.
 -- Assumes nothing.
 use Prim.Native.Nat.{ℕ, zero, suc, ◌+◌, ◌<◌, ◌≤◌}
 use mathlib.Core.Path.{◌≡◌, refl, ap, ◌∙◌}

@@ -2,7 +2,7 @@
 ghost use Rattle.std.specs.Prelude.{◌≡◌, ◌*◌, ◌/◌};
 ghost use Rattle.byte_rules.specs.Masks.{mask_of};
 
-// A bit for each class.
+// A bit for each class: a byte may be in several.
 pub(crate) const BLANK: u8 = 1;
 
 pub(crate) const CLOSER: u8 = 2;
@@ -22,7 +22,7 @@ const A: u8 = ALPHANUMERIC;
 
 // Of each byte the sum of its classes' bits: a row for the high digit, a column for the low one, and above the entry the byte's sign.
 #[rattlefmt::skip]
-const MASKS: [u8; 256] = [
+static MASKS: [u8; 256] = [
     //        0    1    2    3    4    5    6    7    8    9    A    B    C    D    E    F
     //                                                   tab   LF        FF   CR
     /* 0 */   0,   0,   0,   0,   0,   0,   0,   0,   0,   B,   B,   0,   B,   B,   0,   0,
@@ -49,28 +49,9 @@ const MASKS: [u8; 256] = [
     /* F */   0,   0,   0,   0,   0,   0,   0,   0,   0,   0,   0,   0,   0,   0,   0,   0,
 ];
 
-// The entry of a byte, in the row that begins at `row`.
-fn entry(row: usize, c: u8) -> u8
-    requires { row ≡ c / 16 * 16 }
-    ensures { result ≡ mask_of c }
-{
-    MASKS[row + (c % 16) as usize]
-}
-
-// The classes that a byte is in. Compiled code puts a constant array on the stack at each read, as much of it as may be read there: where
-// the row is known, as in ASCII, 16 entries in place of 256.
+// The classes that a byte is in.
 pub(crate) fn mask(c: u8) -> u8
     ensures { result ≡ mask_of c }
 {
-    match c / 16 {
-        0x0 => entry(0x00, c),
-        0x1 => entry(0x10, c),
-        0x2 => entry(0x20, c),
-        0x3 => entry(0x30, c),
-        0x4 => entry(0x40, c),
-        0x5 => entry(0x50, c),
-        0x6 => entry(0x60, c),
-        0x7 => entry(0x70, c),
-        row => entry((row * 16) as usize, c),
-    }
+    MASKS[usize::from(c)]
 }

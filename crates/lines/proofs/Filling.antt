@@ -86,14 +86,14 @@ module _ (buf : List ℕ) (n : ℕ) (room : List ℕ) (left : ℕ) (few : left �
   fills_none z = rw z at filled_start
 
 pub fills_on : {buf : List ℕ} {n : ℕ} {room₀ room : List ℕ} {line : Line} {at left : ℕ} → Fills buf n room₀ room line at left → 0 < left → (here : Line) → IsLine buf here
-    → (v : ℕ) → v ≡ line_word buf (get_or room (at + 1) 0) → Fills buf n room₀ (set room (at + 4) v) here (at + 5) (left - 1)
-fills_on {buf} {n} {room₀} {room} {line} {at} {left} f h here is v e =
-    let one_less : suc (left - 1) ≡ left = omega arith in
+    → (v : ℕ) → v ≡ line_word buf (get_or room (at + 1) 0) → (next fewer : ℕ) → next ≡ at + 5 → fewer + 1 ≡ left → Fills buf n room₀ (set room (at + 4) v) here next fewer
+fills_on {buf} {n} {room₀} {room} {line} {at} {left} f h here is v e next fewer on less =
+    let one_less : suc fewer ≡ left = omega arith in
     record {
       is_line = is;
       long = length-set room (at + 4) v ∙ f.long;
       inside = omega (arith, f.inside, length-set room (at + 4) v);
-      same = filled_turn buf room at (left - 1) v (omega (arith, f.inside)) e ∙ rw one_less f.same;
+      same = rw on (filled_turn buf room at fewer v (omega (arith, f.inside)) e ∙ rw one_less f.same);
     }
 
 pub fills_end : {buf : List ℕ} {n : ℕ} {room₀ room : List ℕ} {line : Line} {at left : ℕ} → Fills buf n room₀ room line at left → left ≡ 0 → room ≡ filled buf n room₀

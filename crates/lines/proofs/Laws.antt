@@ -1,15 +1,19 @@
 -- Laws of `line_of`: it never falls, it grows by one exactly behind an LF, it adds up between two places, and where it fits a word.
 -- Assumes nothing.
 use mathlib.Core.Path.{◌≡◌, refl, sym, ap, ◌∙◌}
-use mathlib.Core.Bool.{Bool, true, false}
+use mathlib.Core.Bool.{Bool, true, false, not, ◌&&◌}
 use Prim.Native.Nat.{ℕ, zero, suc, ◌+◌, ◌-◌, ◌≤◌, ◌<◌, min}
 use native.Mathlib.Omega.{arith}
 use native.Mathlib.Numerals.{add-one}
 use mathlib.Core.List.{List, [], ◌∷◌, ◌++◌}
-use lib.Dec.{eqb}
+use lib.Dec.{eqb, ltb}
+use Rattle.basics.proofs.Laws.{differ}
+use Rattle.std.specs.Prelude.{sum, map, cond, Option, Some, None, unwrap_or}
+use Rattle.std.specs.List.{sum_by, position_or_len}
+use Rattle.std.proofs.lemmas.List.Sums.{sum-map, sum_by-cons, prefix_len-le-length, prefix_len_stops}
 use lib.ListN.{length, take, drop, get_or, length-take}
 use lib.Seq.{take-suc, take-add, take_all, take-length, take-nil}
-use borrow.Author.Tests.{eqb-true, eq-eqb, ne_eqb}
+use borrow.Author.Tests.{eqb-true, eqb-false, eq-eqb, ne_eqb, ltb-false, not-true, not-false}
 use Rattle.scans.specs.Marks.{lf}
 use Rattle.records.specs.Answer.{longest}
 use Rattle.lines.specs.Lines.{lf_in, line_of, line_word}
@@ -43,15 +47,58 @@ module _ (c : ℕ) where
 
 -- ---- a text
 
-in_append : (s t : List ℕ) → lf_in (s ++ t) ≡ lf_in s + lf_in t
+-- as the code counts them
+by_sum : (s : List ℕ) → sum_by (λ c. cond (eqb c lf) 1 0) s ≡ lf_in s
+unfolding lf_in
+by_sum [] = refl
+by_sum (c ∷ s) = sum_by-cons _ c s ∙ rw (by_sum s)
+
+pub lf_sum : (s : List ℕ) (n : ℕ) → n ≡ sum (map (λ c. cond (eqb c lf) 1 0) s) → n ≡ lf_in s
+lf_sum s n e = e ∙ sum-map _ s ∙ by_sum s
+
+pub in_append : (s t : List ℕ) → lf_in (s ++ t) ≡ lf_in s + lf_in t
 unfolding lf_in
 in_append [] t = omega arith
 in_append (c ∷ s) t = omega (arith, in_append s t)
 
-in_few : (s : List ℕ) → lf_in s ≤ length s
+pub in_few : (s : List ℕ) → lf_in s ≤ length s
 unfolding lf_in
 in_few [] = omega arith
 in_few (c ∷ s) = omega (arith, bit_small c, in_few s)
+
+pub lf_nothing : (s : List ℕ) → length s ≡ 0 → lf_in s ≡ 0
+lf_nothing s z = omega (arith, in_few s)
+
+-- one byte more, as the code finds that there is no LF
+pub none_more : (s : List ℕ) (c : ℕ) (clear more : Bool) → (clear ≡ true → lf_in s ≡ 0) → more ≡ (clear && not (eqb c lf)) → more ≡ true → lf_in (s ++ c ∷ []) ≡ 0
+none_more s c true more f e t = omega (arith, in_append s (c ∷ []), f refl, bit_not c (eqb-false c lf (not-true (eqb c lf) (sym e ∙ t))))
+none_more s c false more f e t = absurd (differ cc)
+
+-- the first LF, as the code finds it
+abbrev pub first_lf : List ℕ → ℕ
+first_lf s = position_or_len (λ c. eqb c lf) s
+
+pub first_clear : (s : List ℕ) → lf_in (take (first_lf s) s) ≡ 0
+unfolding lf_in
+first_clear [] = refl
+first_clear (c ∷ s) = go (eqb c lf) refl (first_clear s)
+  where
+    go : (b : Bool) → eqb c lf ≡ b → lf_in (take (first_lf s) s) ≡ 0 → lf_in (take (cond (not b) (1 + first_lf s) 0) (c ∷ s)) ≡ 0
+    go true b z = refl
+    go false b z = let e : 1 + first_lf s ≡ suc (first_lf s) = omega arith in rw (e, b) (omega (arith, z))
+
+pub first_inside : (s : List ℕ) → first_lf s ≤ length s
+first_inside s = prefix_len-le-length _ s
+
+pub first_ends : (s : List ℕ) → first_lf s < length s → get_or s (first_lf s) 0 ≡ lf
+first_ends s h = eqb-true _ _ (not-false (eqb (get_or s (first_lf s) 0) lf) (prefix_len_stops _ s 0 h))
+
+pub first_is : (s : List ℕ) (r : Option ℕ) (n : ℕ) → r ≡ cond (ltb (first_lf s) (length s)) (Some (first_lf s)) None → n ≡ unwrap_or r (length s) → n ≡ first_lf s
+first_is s r n e f = go (ltb (first_lf s) (length s)) refl
+  where
+    go : (b : Bool) → ltb (first_lf s) (length s) ≡ b → n ≡ first_lf s
+    go true b = f ∙ rw (e, b)
+    go false b = f ∙ rw (e, b) (omega (arith, ltb-false _ _ b, first_inside s))
 
 -- ---- the line of a place
 
@@ -102,6 +149,18 @@ module _ (buf : List ℕ) where
       cut [] n = take-nil (length (take n [])) ∙ sym (take-nil n)
       cut (c ∷ s) zero = refl
       cut (c ∷ s) (suc n) = ap (λ (t : List ℕ). c ∷ t) (cut s n)
+
+  -- the LF bytes from one place on to another, cut to the buffer
+  pub line_to : (a p : ℕ) (s : List ℕ) → a ≤ min p (length buf) → s ≡ take (min p (length buf) - a) (drop a buf) → line_of buf a + lf_in s ≡ line_of buf p
+  line_to a p s h e =
+      let end = min p (length buf) in
+      let z : a + (end - a) ≡ end = omega arith in
+      rw e (sym (line_between a (end - a)) ∙ ap (line_of buf) z ∙ line_cut p)
+
+  -- the line of no place is past that of the end
+  pub line_within : (p : ℕ) → line_of buf p ≤ length buf + 1
+  unfolding line_of
+  line_within p = omega (arith, in_few (take p buf), length-take p buf)
 
   -- ---- where it fits a word
 

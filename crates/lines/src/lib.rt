@@ -8,10 +8,8 @@ ghost use Rattle.std.specs.Prelude.{◌≡◌, min};
 ghost use Rattle.records.specs.Answer.{longest};
 ghost use Rattle.lines.specs.Lines.{filled};
 
-use basics::least;
 pub use count::lines_between;
-use cursor::{Line, line_end, line_of};
-use records::LONGEST;
+use cursor::Line;
 
 // How many words a record with a line has: its place is the second, its line the fifth.
 pub const LINED_WIDTH: usize = 5;
@@ -20,11 +18,7 @@ pub const LINED_WIDTH: usize = 5;
 fn word_of(line: usize) -> u32
     ensures { result ≡ min line longest }
 {
-    if line < LONGEST {
-        line as u32
-    } else {
-        u32::MAX
-    }
+    u32::try_from(line).unwrap_or(u32::MAX)
 }
 
 // Fills in the lines of the first n records of `room`, as many as are whole. Most places lie in the line of the one before; else the bytes
@@ -32,23 +26,18 @@ fn word_of(line: usize) -> u32
 pub fn fill_lines(buf: &[u8], n: usize, room: &mut [u32])
     ensures { room.new ≡ filled buf.now n room.old }
 {
-    let mut left = least(n, room.len() / LINED_WIDTH);
-    if left == 0 {
+    let count = n.min(room.len() / LINED_WIDTH);
+    if count == 0 {
         return;
     }
-    let mut line = Line {
-        from: 0,
-        to: line_end(buf, 0),
-        number: 1,
-    };
-    let mut at: usize = 0;
-    while 0 < left {
+    let mut line = Line::first(buf);
+    // By index: of what is written through std's `chunks_exact_mut` nothing can be proved afterwards.
+    for k in 0..count {
+        let at = LINED_WIDTH * k;
         let place = room[at + 1] as usize;
         if (place < line.from) | (line.to < place) {
-            line = line_of(buf, line, place);
+            line = line.go_to(buf, place);
         }
         room[at + 4] = word_of(line.number);
-        at += LINED_WIDTH;
-        left -= 1;
     }
 }

@@ -1,15 +1,15 @@
 -- What holds of the tests by place: past the end none holds; a place has one byte; a word is read a byte at a time.
 -- Assumes nothing.
 use Prim.Native.Nat.{ℕ, zero, suc, ◌+◌, ◌-◌, ◌≤◌, ◌<◌}
-use mathlib.Core.Bool.{Bool, true, false, ◌&&◌}
-use mathlib.Core.Path.{◌≡◌, refl, ap, sym, ◌∙◌}
+use mathlib.Core.Bool.{Bool, true, false}
+use mathlib.Core.Path.{◌≡◌, refl, sym, ◌∙◌}
 use mathlib.Core.List.{List, [], ◌∷◌}
-use native.Mathlib.Numerals.{add-one}
 use native.Mathlib.Omega.{arith}
-use borrow.Author.Tests.{le-ltb, lt-ltb, ltb-true, ltb-false, eqb-true, ne_eqb}
+use borrow.Author.Tests.{le-ltb, lt-ltb, ltb-true, ltb-false, eq-eqb, eqb-true, eqb-false, ne_eqb}
+use Rattle.std.specs.List.{starts_with}
 use lib.Dec.{ltb, eqb}
-use lib.ListN.{length, drop, get_or, length-drop, drop_of_length-le}
-use lib.Seq.{drop-cons, get_or-drop}
+use lib.ListN.{length, drop, get_or, length-drop}
+use lib.Seq.{get_or-drop}
 use Rattle.basics.proofs.Laws.{differ, both}
 use Rattle.byte_rules.specs.Classes.{is_blank, is_closer}
 use Rattle.look.specs.Look.{holds_at, is_byte, byte_at, blank_at, alphanumeric_at, closer_at, doubled_at, word_at}
@@ -142,6 +142,20 @@ module _ (s : List ℕ) (p : ℕ) where
   pub word_here : (w : List ℕ) → word_at (drop p s) 0 w ≡ word_at s p w
   word_here w = let z : p + 0 ≡ p = omega arith in rw z at (word_from w 0)
 
+-- a word begins a text, as the library tests it, just where it stands at its start
+same_test : (a b : ℕ) → eqb a b ≡ eqb b a
+same_test a b = go (eqb b a) refl
+  where
+    go : (t : Bool) → eqb b a ≡ t → eqb a b ≡ t
+    go true t = eq-eqb a b (sym (eqb-true b a t))
+    go false t = ne_eqb a b (λ e. eqb-false b a t (sym e))
+
+pub starts_word : (s w : List ℕ) → starts_with eqb s w ≡ word_at s 0 w
+unfolding word_at
+starts_word s [] = refl
+starts_word [] (b ∷ bs) = rw (byte_past [] 0 b (omega arith))
+starts_word (x ∷ xs) (b ∷ bs) = rw (same_test b x, starts_word xs bs, word_here (x ∷ xs) 1 bs, byte_test (x ∷ xs) 0 b (omega arith))
+
 module _ (s : List ℕ) where
   -- a word that stands at i ends within the text
   pub word_within : (w : List ℕ) (i : ℕ) → i ≤ length s → word_at s i w ≡ true → i + length w ≤ length s
@@ -178,21 +192,3 @@ module _ (s : List ℕ) where
   unfolding word_at
   word_past [] i h = refl
   word_past (b ∷ bs) i h = ne_eqb (length (b ∷ bs)) 0 (λ e. omega arith) ∙ sym (word_not i b bs (byte_past s i b h))
-
-  module _ (w : List ℕ) (k : ℕ) where
-    -- at the byte k of the word
-    word_step : k < length w → word_at s k (drop k w) ≡ (byte_at s k (get_or w k 0) && word_at s (k + 1) (drop (k + 1) w))
-    unfolding word_at
-    word_step h =
-        ap (λ (l : List ℕ). word_at s k l) (drop-cons w k 0 h)
-        ∙ ap (λ (n : ℕ). byte_at s k (get_or w k 0) && word_at s (k + 1) (drop n w)) (sym (add-one k))
-
-    pub word_on : k < length w → byte_at s k (get_or w k 0) ≡ true → word_at s k (drop k w) ≡ word_at s (k + 1) (drop (k + 1) w)
-    word_on h t = word_step h ∙ rw t
-
-    pub word_differs : k < length w → byte_at s k (get_or w k 0) ≡ false → word_at s k (drop k w) ≡ false
-    word_differs h t = word_step h ∙ rw t
-
-    pub word_ends : length w ≤ k → word_at s k (drop k w) ≡ true
-    unfolding word_at
-    word_ends h = rw (drop_of_length-le w h)

@@ -13,7 +13,7 @@ use Rattle.look.specs.Look.{byte_at, blank_at}
 use Rattle.look.proofs.Laws.{blank_past}
 use Rattle.scans.specs.Marks.{rbracket}
 use Rattle.scans.specs.Ends.{blanks_step, blanks_end, tag_stop, tag_end}
-use Rattle.basics.specs.declared.Place.TheVariants.{At, Nowhere}
+use Rattle.std.specs.Prelude.{Some, None}
 use Rattle.scans.specs.declared.Step.TheVariants.{One, Stop}
 use Rattle.scans.proofs.Laws.{Leads, by_one, stops, scanned, scan_ge, scan_le, by_less, clash}
 
@@ -58,11 +58,11 @@ blanks_to_end s i h f =
     let v : blanks_end s i ≤ length s = scan_le (blanks_step s) (length s) i in
     by_less (blanks_end s i) (length s) (λ l. clash (blanks_stopped s i) (f (blanks_end s i) u l)) (λ l. omega arith)
 
-pub found : (b : Bool) (j q : ℕ) → elim b [ true ↦ At j | false ↦ Nowhere ] ≡ At q → (b ≡ true) × (j ≡ q)
+pub found : (b : Bool) (j q : ℕ) → elim b [ true ↦ Some j | false ↦ None ] ≡ Some q → (b ≡ true) × (j ≡ q)
 found true j q h = (refl, cc)
 found false j q h = absurd (differ cc)
 
 -- at a tag's end stands its `]`
-pub tag_closed : (s : List ℕ) (i q : ℕ) → tag_end s i ≡ At q → byte_at s q rbracket ≡ true
+pub tag_closed : (s : List ℕ) (i q : ℕ) → tag_end s i ≡ Some q → byte_at s q rbracket ≡ true
 unfolding tag_end
 tag_closed s i q h = let f = found (byte_at s (tag_stop s i) rbracket) (tag_stop s i) q h in rw f.1 at f.0

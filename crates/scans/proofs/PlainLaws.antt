@@ -8,22 +8,14 @@ use native.Mathlib.Nat.{le_refl}
 use native.Mathlib.Omega.{arith}
 use lib.Dec.{eqb}
 use lib.ListN.{length, get_or}
-use Rattle.basics.proofs.Laws.{neither}
 use Rattle.look.specs.Look.{byte_at}
 use Rattle.look.proofs.Laws.{holds_in, byte_test, doubled_not}
 use Rattle.scans.specs.Marks.{tick, tilde, lbracket, under, less, lf, cr, space}
 use Rattle.scans.specs.Ends.{label_stopper, label_step}
 use Rattle.scans.specs.Plain.{is_active, is_label_active, active_at, plain_step, plain_end, Lacks, Plain8}
-use Rattle.scans.specs.declared.Step.TheVariants.{One, Stop}
+use Rattle.scans.specs.declared.Step.TheVariants.{One}
 use Rattle.scans.proofs.TagLaws.{html_not, opens_not}
 use Rattle.scans.proofs.Laws.{by_less, clash, scan_one, scan_stop, scan_le, scan_ge, over}
-
--- one byte more
-pub lacks_more : (s : List ℕ) (i k b : ℕ) (found : Bool) → (found ≡ false → Lacks s i k b) → (found || eqb (get_or s (i + k) 0) b) ≡ false → Lacks s i (k + 1) b
-lacks_more s i k b found f h j l =
-    by_less j k
-    (λ g. f (neither found (eqb (get_or s (i + k) 0) b) h).0 j g)
-    (λ g. let z : j ≡ k = omega arith in rw z (neither found (eqb (get_or s (i + k) 0) b) h).1)
 
 -- none of six tests
 pub record Free (a b c d e f : Bool) : Type 0 where
@@ -59,10 +51,6 @@ module _ (s : List ℕ) (k : ℕ) (h : k < length s) where
   pub plain_one : active_at s k ≡ false → plain_step s k ≡ One
   unfolding plain_step
   plain_one n = rw (plain_step, n)
-
-  pub active_stop : is_active (get_or s k 0) ≡ true → plain_step s k ≡ Stop
-  unfolding plain_step
-  active_stop t = rw (plain_step, active_test ∙ t)
 
   -- a plain byte is none of the active ones
   pub plain_byte : active_at s k ≡ false → let b = get_or s k 0 in Free (eqb b tick) (eqb b less) (eqb b tilde) (eqb b lbracket) (eqb b lf) (eqb b under)

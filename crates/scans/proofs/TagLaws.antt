@@ -14,9 +14,8 @@ use Rattle.look.specs.Look.{byte_at, blank_at, doubled_at}
 use Rattle.look.proofs.Laws.{byte_within, byte_test, byte_other, blank_test, blank_other, doubled_not, doubled_second, word_not}
 use Rattle.scans.specs.Marks.{lf, cr, space, less, lbracket, rbracket, tick}
 use Rattle.scans.specs.Ends.{tag_step, tag_stop, tag_end, opens_tag, label_stopper, html_mark, label_step}
-use Rattle.scans.specs.Notes.{covers, Holds, Noted}
-use Rattle.basics.specs.declared.Place.{Place}
-use Rattle.basics.specs.declared.Place.TheVariants.{At, Nowhere}
+use Rattle.scans.specs.Notes.{covers, Holds, Looked}
+use Rattle.std.specs.Prelude.{Option, Some, None}
 use Rattle.scans.specs.declared.Note.{Note}
 use Rattle.scans.specs.declared.Step.TheVariants.{One, Two, Stop}
 use Rattle.scans.proofs.Laws.{by_less, clash, scan_one, scan_ge, scan_through}
@@ -30,7 +29,7 @@ tag_says_two false false true d h = absurd (differ cc)
 tag_says_two false false false true h = absurd (differ cc)
 tag_says_two false false false false h = absurd (differ cc)
 
-found_not : (b : Bool) (j : ℕ) → b ≡ true → elim b [ true ↦ At j | false ↦ Nowhere ] ≡ Nowhere → ⊥
+found_not : (b : Bool) (j : ℕ) → b ≡ true → ◌≡◌ {A = Option ℕ} (elim b [ true ↦ Some j | false ↦ None ]) None → ⊥
 found_not true j t h = differ cc
 found_not false j t h = differ cc
 
@@ -53,20 +52,20 @@ module _ (s : List ℕ) where
       let t : byte_at s k tick ≡ false = byte_test s k tick h ∙ ne_eqb (get_or s k 0) tick (λ e. omega arith) in
       rw (tag_step, byte_test s k rbracket h ∙ ne_eqb (get_or s k 0) rbracket (λ e. omega arith), doubled_not s k tick t, t, blank_test s k h ∙ not_blank (get_or s k 0) (omega arith))
 
-  pub tag_nowhere : (i : ℕ) → byte_at s (tag_stop s i) rbracket ≡ false → tag_end s i ≡ Nowhere
+  pub tag_nowhere : (i : ℕ) → byte_at s (tag_stop s i) rbracket ≡ false → tag_end s i ≡ None
   unfolding tag_end
   tag_nowhere i h = rw (tag_end, h)
 
-  pub tag_found : (i : ℕ) → byte_at s (tag_stop s i) rbracket ≡ true → tag_end s i ≡ Nowhere → ⊥
+  pub tag_found : (i : ℕ) → byte_at s (tag_stop s i) rbracket ≡ true → tag_end s i ≡ None → ⊥
   unfolding tag_end
   tag_found i h n = found_not (byte_at s (tag_stop s i) rbracket) (tag_stop s i) h n
 
-  pub tag_at : (i j : ℕ) → j ≡ tag_stop s i → byte_at s j rbracket ≡ true → tag_end s i ≡ At j
+  pub tag_at : (i j : ℕ) → j ≡ tag_stop s i → byte_at s j rbracket ≡ true → tag_end s i ≡ Some j
   unfolding tag_end
   tag_at i j e h = rw (tag_end, ← e, h, ← e)
 
   -- from a `[` that opens no tag to where the search for its end stopped no `[` opens one
-  barren_to : (i : ℕ) → byte_at s (tag_stop s (i + 1)) rbracket ≡ false → (k : ℕ) → i ≤ k → k < tag_stop s (i + 1) → byte_at s k lbracket ≡ true → tag_end s (k + 1) ≡ Nowhere
+  barren_to : (i : ℕ) → byte_at s (tag_stop s (i + 1)) rbracket ≡ false → (k : ℕ) → i ≤ k → k < tag_stop s (i + 1) → byte_at s k lbracket ≡ true → tag_end s (k + 1) ≡ None
   barren_to i n k h l b =
       by_less i k
       (λ g.
@@ -81,12 +80,12 @@ module _ (s : List ℕ) where
       (λ g. let z : k ≡ i = omega arith in rw z (tag_nowhere (i + 1) n))
 
 -- a place that a test found
-at_in : (b : Bool) (i j q n : ℕ) → i ≤ j → (b ≡ true → j < n) → elim b [ true ↦ At j | false ↦ Nowhere ] ≡ At q → (i ≤ q) × (q < n)
+at_in : (b : Bool) (i j q n : ℕ) → i ≤ j → (b ≡ true → j < n) → elim b [ true ↦ Some j | false ↦ None ] ≡ Some q → (i ≤ q) × (q < n)
 at_in true i j q n h f p = let z : j ≡ q = cc in let g : j < n = f refl in omega arith
 at_in false i j q n h f p = absurd (differ cc)
 
 -- a tag's end lies behind its start and within the text
-pub tag_in : (s : List ℕ) (i q : ℕ) → i ≤ length s → tag_end s i ≡ At q → (i ≤ q) × (q < length s)
+pub tag_in : (s : List ℕ) (i q : ℕ) → i ≤ length s → tag_end s i ≡ Some q → (i ≤ q) × (q < length s)
 unfolding tag_end
 tag_in s i q h p =
     at_in (byte_at s (tag_stop s i) rbracket) i (tag_stop s i) q (length s)
@@ -108,26 +107,20 @@ covered_not a b i h = (leb-true a i (both (leb a i) (ltb i b) h).0, ltb-true i b
 
 module _ (s : List ℕ) (i : ℕ) (n : Note) where
   -- a `[` that a note covers opens no tag
-  pub covered_nowhere : Holds s n → covers n i ≡ true → byte_at s i lbracket ≡ true → tag_end s (i + 1) ≡ Nowhere
+  pub covered_nowhere : Holds s n → covers n i ≡ true → byte_at s i lbracket ≡ true → tag_end s (i + 1) ≡ None
   covered_nowhere f h t = let c = covered_not n.from n.to i h in f i c.0 c.1 t
 
-  pub noted_here : covers n i ≡ true → Holds s n → Noted s i n
-  noted_here h f = record { holds = f; opens = λ t l e. clash l h }
-
-  pub noted_other : byte_at s i lbracket ≡ false → Holds s n → Noted s i n
-  noted_other h f = record { holds = f; opens = λ t l e. clash h t }
-
-  pub noted_found : (j : ℕ) → j ≡ tag_stop s (i + 1) → byte_at s j rbracket ≡ true → Holds s n → Noted s i n
+  pub noted_found : (j : ℕ) → j ≡ tag_stop s (i + 1) → byte_at s j rbracket ≡ true → Holds s n → Looked s i n
   noted_found j e h f = record { holds = f; opens = λ t l x. tag_found s (i + 1) (rw e at h) x }
 
-pub nowhere : (s : List ℕ) (i j : ℕ) → j ≡ tag_stop s i → byte_at s j rbracket ≡ false → tag_end s i ≡ Nowhere
+pub nowhere : (s : List ℕ) (i j : ℕ) → j ≡ tag_stop s i → byte_at s j rbracket ≡ false → tag_end s i ≡ None
 nowhere s i j e h = tag_nowhere s i (rw e at h)
 
 -- what a search that failed tells
 pub holds_to : (s : List ℕ) (i j : ℕ) → j ≡ tag_stop s (i + 1) → byte_at s j rbracket ≡ false → Holds s (note i j)
 holds_to s i j e h = rw e (barren_to s i (rw e at h))
 
-pub noted_to : (s : List ℕ) (i j : ℕ) → j ≡ tag_stop s (i + 1) → byte_at s i lbracket ≡ true → byte_at s j rbracket ≡ false → Noted s i (note i j)
+pub noted_to : (s : List ℕ) (i j : ℕ) → j ≡ tag_stop s (i + 1) → byte_at s i lbracket ≡ true → byte_at s j rbracket ≡ false → Looked s i (note i j)
 noted_to s i j e t h =
     let w : i < length s = byte_within s i lbracket t in
     let g : i + 1 ≤ tag_stop s (i + 1) = scan_ge (tag_step s) (length s) (i + 1) (i + 1) (omega arith) (omega arith) in
@@ -137,15 +130,15 @@ noted_to s i j e t h =
 pub holds_nothing : (s : List ℕ) (n : Note) → n.to ≡ 0 → Holds s n
 holds_nothing s n z k a l t = absurd (let y : ⊥ = omega arith in y)
 
-opens_cases : (t l : Bool) (e : Place) → (t ≡ true → l ≡ true → e ≡ Nowhere) → (t ≡ true → l ≡ false → e ≡ Nowhere → ⊥) → (t && not l) ≡ elim t [ true ↦ elim e [ At j ↦ true | Nowhere ↦ false ] | false ↦ false ]
+opens_cases : (t l : Bool) (e : Option ℕ) → (t ≡ true → l ≡ true → e ≡ None) → (t ≡ true → l ≡ false → e ≡ None → ⊥) → (t && not l) ≡ elim t [ true ↦ elim e [ Some j ↦ true | None ↦ false ] | false ↦ false ]
 opens_cases false l e f g = refl
-opens_cases true false (At j) f g = refl
-opens_cases true false Nowhere f g = absurd (g refl refl refl)
-opens_cases true true (At j) f g = let y : At j ≡ Nowhere = f refl refl in absurd (differ cc)
-opens_cases true true Nowhere f g = refl
+opens_cases true false (Some j) f g = refl
+opens_cases true false None f g = absurd (g refl refl refl)
+opens_cases true true (Some j) f g = let y : Some j ≡ None = f refl refl in absurd (differ cc)
+opens_cases true true None f g = refl
 
 -- by a note it is known whether a `[` opens a tag
-pub opens_is : (s : List ℕ) (i : ℕ) (n : Note) → Noted s i n → (byte_at s i lbracket && not (covers n i)) ≡ opens_tag s i
+pub opens_is : (s : List ℕ) (i : ℕ) (n : Note) → Looked s i n → (byte_at s i lbracket && not (covers n i)) ≡ opens_tag s i
 unfolding opens_tag
 opens_is s i n x =
     opens_cases (byte_at s i lbracket) (covers n i) (tag_end s (i + 1))
@@ -163,7 +156,7 @@ unfolding opens_tag
 opens_not s i h = rw (opens_tag, h)
 
 -- in a label a lone `[` is stepped over where a note covers it, and stops it where none does
-module _ (s : List ℕ) (i : ℕ) (n : Note) (x : Noted s i n) (h : byte_at s i lbracket ≡ true) (d : doubled_at s i lbracket ≡ false) where
+module _ (s : List ℕ) (i : ℕ) (n : Note) (x : Looked s i n) (h : byte_at s i lbracket ≡ true) (d : doubled_at s i lbracket ≡ false) where
   no : (b : ℕ) → (lbracket ≡ b → ⊥) → byte_at s i b ≡ false
   no b e = byte_other s i lbracket b h e
 

@@ -1,5 +1,5 @@
 -- Where a tag, a label, a subscript and an italic end (document 01, "Reading rules"), in the text `s`, the buffer up to the span's end.
-use Rattle.std.specs.Prelude.{ℕ, ◌+◌, ◌-◌, Bool, true, false, ◌&&◌, ◌||◌, not, List, ltb, length}
+use Rattle.std.specs.Prelude.{ℕ, ◌+◌, ◌-◌, Bool, true, false, ◌&&◌, ◌||◌, not, Option, Some, None, List, ltb, length}
 use Rattle.byte_rules.specs.Text.{bytes}
 use Rattle.byte_rules.specs.Reading.{Reading}
 use Rattle.look.specs.Look.{holds_at, byte_at, blank_at, alphanumeric_at, closer_at, doubled_at, word_at}
@@ -7,10 +7,6 @@ use Rattle.scans.specs.Marks.{tick, lbracket, rbracket, under, lf, cr, space, op
 use Rattle.scans.specs.Scan.{scan}
 use Rattle.scans.specs.declared.Step.{Step}
 use Rattle.scans.specs.declared.Step.TheVariants.{One, Two, Stop}
-use Rattle.basics.specs.declared.Place.{Place}
-use Rattle.basics.specs.declared.Place.TheVariants.{At, Nowhere}
-use Rattle.scans.specs.declared.Rule.{Rule}
-use Rattle.scans.specs.declared.Rule.TheVariants.{Blanks, Tag, Subscript, Italic}
 
 module _ (s : List ℕ) where
   -- a blank is stepped over
@@ -45,17 +41,6 @@ module _ (rd : Reading) (s : List ℕ) where
         | false ↦ elim (byte_at s j under || holds_at rd.bars_italic s j) [ true ↦ Stop | false ↦ One ]
       ]
 
--- the rules that the code's one loop goes by
-unfoldable pub step_by : Reading → List ℕ → Rule → ℕ → Step
-step_by rd s Blanks = blanks_step s
-step_by rd s Tag = tag_step s
-step_by rd s Subscript = subscript_step rd s
-step_by rd s Italic = italic_step rd s
-
--- where the scan by a rule from i on stops
-abbrev pub scan_by : Reading → List ℕ → Rule → ℕ → ℕ
-scan_by rd s r i = scan (step_by rd s r) (length s) i
-
 module _ (s : List ℕ) where
   -- the first place from i on that is no blank
   abbrev pub blanks_end : ℕ → ℕ
@@ -66,12 +51,12 @@ module _ (s : List ℕ) where
   tag_stop i = scan (tag_step s) (length s) i
 
   -- where the tag whose text begins at i has its `]`
-  unfoldable pub tag_end : ℕ → Place
-  tag_end i = let j = tag_stop i in elim (byte_at s j rbracket) [ true ↦ At j | false ↦ Nowhere ]
+  unfoldable pub tag_end : ℕ → Option ℕ
+  tag_end i = let j = tag_stop i in elim (byte_at s j rbracket) [ true ↦ Some j | false ↦ None ]
 
   -- a `[` that opens a tag
   unfoldable pub opens_tag : ℕ → Bool
-  opens_tag i = elim (byte_at s i lbracket) [ true ↦ elim (tag_end (i + 1)) [ At j ↦ true | Nowhere ↦ false ] | false ↦ false ]
+  opens_tag i = elim (byte_at s i lbracket) [ true ↦ elim (tag_end (i + 1)) [ Some j ↦ true | None ↦ false ] | false ↦ false ]
 
   -- the bytes that end a label wherever they stand alone: space, CR, LF, backtick
   unfoldable pub label_stopper : ℕ → Bool
@@ -97,8 +82,8 @@ module _ (s : List ℕ) where
   label_end i = scan label_step (length s) i
 
   -- a lone `_` at j closes an italic: the byte before it is alphanumeric and the byte after it is not
-  unfoldable pub closes_italic : ℕ → Place
-  closes_italic j = elim (byte_at s j under && alphanumeric_at s (j - 1) && not (alphanumeric_at s (j + 1))) [ true ↦ At j | false ↦ Nowhere ]
+  unfoldable pub closes_italic : ℕ → Option ℕ
+  closes_italic j = elim (byte_at s j under && alphanumeric_at s (j - 1) && not (alphanumeric_at s (j + 1))) [ true ↦ Some j | false ↦ None ]
 
 module _ (rd : Reading) (s : List ℕ) where
   -- where a subscript's text, read from i on, stops
@@ -106,16 +91,16 @@ module _ (rd : Reading) (s : List ℕ) where
   subscript_stop i = scan (subscript_step rd s) (length s) i
 
   -- where a subscript whose text begins at i ends, if it is one: it is not empty
-  unfoldable pub subscript_end : ℕ → Place
-  subscript_end i = let j = subscript_stop i in elim (ltb i j) [ true ↦ At j | false ↦ Nowhere ]
+  unfoldable pub subscript_end : ℕ → Option ℕ
+  subscript_end i = let j = subscript_stop i in elim (ltb i j) [ true ↦ Some j | false ↦ None ]
 
   -- where an italic's text, read from i on, stops
   abbrev pub italic_stop : ℕ → ℕ
   italic_stop i = scan (italic_step rd s) (length s) i
 
   -- the lone `_` that ends an italic whose text begins at i, if it is one: its first byte is alphanumeric
-  unfoldable pub italic_end : ℕ → Place
-  italic_end i = elim (alphanumeric_at s i) [ true ↦ closes_italic s (italic_stop (i + 1)) | false ↦ Nowhere ]
+  unfoldable pub italic_end : ℕ → Option ℕ
+  italic_end i = elim (alphanumeric_at s i) [ true ↦ closes_italic s (italic_stop (i + 1)) | false ↦ None ]
 
 -- a label is a url if it begins with http:// , https:// or mm
 unfoldable pub is_url : List ℕ → Bool

@@ -5,13 +5,14 @@
 pub mod labels;
 pub mod plain;
 
-ghost use Rattle.std.specs.Prelude.{◌≡◌, ◌≤◌};
+ghost use Rattle.std.specs.Prelude.{◌≡◌, ◌≤◌, ℕ, Some, None, length};
 ghost use Rattle.byte_rules.specs.Reading.{named};
-ghost use Rattle.scans.specs.Ends.{blanks_step, tag_step, subscript_step, italic_step, step_by, scan_by, blanks_end, tag_stop, subscript_end, closes_italic, italic_end};
+ghost use Rattle.scans.specs.Scan.{scan, SaysAt};
+ghost use Rattle.scans.specs.Ends.{blanks_step, tag_step, subscript_step, italic_step, blanks_end, tag_stop, subscript_end, closes_italic, italic_end};
+ghost use Rattle.scans.specs.declared.Step.{Step};
 ghost use Rattle.scans.specs.Notes.{covers};
 
-use basics::Place;
-use byte_rules::Reading;
+use byte_rules::{Reading, is_blank};
 use look::{
     alphanumeric_at, bars_italic_at, bars_subscript_at, blank_at, byte_at, closer_at, doubled_at,
 };
@@ -21,15 +22,6 @@ pub enum Step {
     One,
     Two,
     Stop,
-}
-
-// The rule that a scan goes by; the last two look at the reading.
-#[derive(Clone, Copy)]
-pub enum Rule {
-    Blanks,
-    Tag,
-    Subscript,
-    Italic,
 }
 
 // What a search for a tag's end that failed tells: no `[` from `from` on and before `to` opens a tag.
@@ -50,10 +42,18 @@ impl Note {
     pub fn covers(self, at: usize) -> bool
         ensures { result ≡ covers self at }
     {
-        (self.from <= at) & (at < self.to)
+        (self.from..self.to).contains(&at)
     }
 }
 
+// A value, and the note to go on with.
+#[derive(Clone, Copy)]
+pub struct Noted<T> {
+    pub value: T,
+    pub note: Note,
+}
+
+#[tactic(auto, unfolding(crate::specs::Ends::blanks_step))]
 fn blanks_step(text: &[u8], i: usize) -> Step
     ensures { result ≡ blanks_step text.now i }
 {
@@ -65,71 +65,55 @@ fn blanks_step(text: &[u8], i: usize) -> Step
 }
 
 // Most bytes are small letters, which no tag ends at.
+#[tactic(auto, using(crate::proofs::TagLaws::tag_letter, look::proofs::Laws::byte_test, look::proofs::Laws::blank_test, look::proofs::Laws::byte_past, look::proofs::Laws::blank_past), unfolding(crate::specs::Ends::tag_step, look::specs::Look::doubled_at))]
 fn tag_step(text: &[u8], i: usize) -> Step
     ensures { result ≡ tag_step text.now i }
 {
-    if i < text.len() {
-        if b'`' < text[i] {
-            return Step::One;
-        }
-    }
-    if byte_at(text, i, b']') {
-        return Step::Stop;
-    }
-    if doubled_at(text, i, b'`') {
-        return Step::Two;
-    }
-    if byte_at(text, i, b'`') {
-        return Step::Stop;
-    }
-    if blank_at(text, i) {
-        Step::Stop
-    } else {
-        Step::One
+    match text.get(i) {
+        Some(c) if b'`' < *c => Step::One,
+        Some(b']') => Step::Stop,
+        Some(b'`') => if byte_at(text, i + 1, b'`') {
+            Step::Two
+        } else {
+            Step::Stop
+        },
+        Some(c) if is_blank(*c) => Step::Stop,
+        _ => Step::One,
     }
 }
 
+#[tactic(auto, unfolding(crate::specs::Ends::subscript_step))]
 fn subscript_step(reading: Reading, text: &[u8], i: usize) -> Step
     ensures { result ≡ subscript_step (named reading) text.now i }
 {
-    if blank_at(text, i) | closer_at(text, i) | bars_subscript_at(reading, text, i) {
+    if blank_at(text, i) || closer_at(text, i) || bars_subscript_at(reading, text, i) {
         Step::Stop
     } else {
         Step::One
     }
 }
 
+#[tactic(auto, unfolding(crate::specs::Ends::italic_step))]
 fn italic_step(reading: Reading, text: &[u8], i: usize) -> Step
     ensures { result ≡ italic_step (named reading) text.now i }
 {
     if doubled_at(text, i, b'_') {
-        return Step::Two;
-    }
-    if byte_at(text, i, b'_') | bars_italic_at(reading, text, i) {
+        Step::Two
+    } else if byte_at(text, i, b'_') || bars_italic_at(reading, text, i) {
         Step::Stop
     } else {
         Step::One
     }
 }
 
-fn step_by(reading: Reading, rule: Rule, text: &[u8], i: usize) -> Step
-    ensures { result ≡ step_by (named reading) text.now rule i }
-{
-    match rule {
-        Rule::Blanks => blanks_step(text, i),
-        Rule::Tag => tag_step(text, i),
-        Rule::Subscript => subscript_step(reading, text, i),
-        Rule::Italic => italic_step(reading, text, i),
-    }
-}
-
-// The first place from `from` on at which the rule stops, or the end.
-fn scan_by(reading: Reading, rule: Rule, text: &[u8], from: usize) -> usize
-    ensures { result ≡ scan_by (named reading) text.now rule from }
+// The first place from `from` on at which the rule stops, or the end. By index: a step is one byte or two.
+fn scan<F: Fn(usize) -> Step>(text: &[u8], from: usize, rule: F) -> usize
+    requires { F.IsAlwaysCallable rule }
+    ensures { (step : ℕ → Step) → SaysAt (F.post rule) step → result ≡ scan step (length text.now) from }
 {
     let mut i = from;
     while i < text.len() {
-        match step_by(reading, rule, text, i) {
+        match rule(i) {
             Step::One => i += 1,
             Step::Two => i += 2,
             Step::Stop => return i,
@@ -142,49 +126,45 @@ fn scan_by(reading: Reading, rule: Rule, text: &[u8], from: usize) -> usize
 pub fn blanks_end(text: &[u8], from: usize) -> usize
     ensures { result ≡ blanks_end text.now from }
 {
-    scan_by(Reading::Rust, Rule::Blanks, text, from)
+    scan(text, from, |i| blanks_step(text, i))
 }
 
 // Where the search for the `]` of a tag whose text begins at `from` stops: at the `]`, or where it fails.
 pub fn tag_stop(text: &[u8], from: usize) -> usize
     ensures { result ≡ tag_stop text.now from }
 {
-    scan_by(Reading::Rust, Rule::Tag, text, from)
+    scan(text, from, |i| tag_step(text, i))
 }
 
 // Where a subscript whose text begins at `from` ends, if it is one: it is not empty.
-pub fn subscript_end(reading: Reading, text: &[u8], from: usize) -> Place
+#[tactic(auto, unfolding(crate::specs::Ends::subscript_end))]
+pub fn subscript_end(reading: Reading, text: &[u8], from: usize) -> Option<usize>
     ensures { result ≡ subscript_end (named reading) text.now from }
 {
-    let j = scan_by(reading, Rule::Subscript, text, from);
-    if from < j {
-        Place::At(j)
-    } else {
-        Place::Nowhere
-    }
+    let end = scan(text, from, |i| subscript_step(reading, text, i));
+    (from < end).then_some(end)
 }
 
 // The lone `_` that ends an italic whose text begins at `from`, if it is one.
-pub fn italic_end(reading: Reading, text: &[u8], from: usize) -> Place
+#[tactic(auto, using(look::proofs::Laws::alphanumeric_within), unfolding(crate::specs::Ends::italic_end))]
+pub fn italic_end(reading: Reading, text: &[u8], from: usize) -> Option<usize>
     ensures { result ≡ italic_end (named reading) text.now from }
 {
-    if alphanumeric_at(text, from) {
-        let j = scan_by(reading, Rule::Italic, text, from + 1);
-        closes_italic(text, j)
-    } else {
-        Place::Nowhere
+    if !alphanumeric_at(text, from) {
+        return None;
     }
+    let end = scan(text, from + 1, |i| italic_step(reading, text, i));
+    closes_italic(text, end)
 }
 
 // j closes an italic: a lone `_`, an alphanumeric byte before it, and none after it.
-fn closes_italic(text: &[u8], j: usize) -> Place
+#[tactic(auto, using(look::proofs::Laws::byte_within), unfolding(crate::specs::Ends::closes_italic))]
+fn closes_italic(text: &[u8], j: usize) -> Option<usize>
     requires { 1 ≤ j }
     ensures { result ≡ closes_italic text.now j }
 {
-    if byte_at(text, j, b'_') {
-        if alphanumeric_at(text, j - 1) & !alphanumeric_at(text, j + 1) {
-            return Place::At(j);
-        }
-    }
-    Place::Nowhere
+    let closes = byte_at(text, j, b'_')
+        && alphanumeric_at(text, j - 1)
+        && !alphanumeric_at(text, j + 1);
+    closes.then_some(j)
 }

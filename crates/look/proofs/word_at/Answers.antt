@@ -1,12 +1,15 @@
 -- `look::word_at` meets its contract.
 -- Assumes nothing.
-use Rattle.basics.proofs.Laws.{rest_is}
-use Rattle.look.proofs.Laws.{word_past, word_here}
+use Rattle.std.proofs.Common.{rules, ◌≡◌, ◌-◌}
 use mathlib.Core.Path.{◌∙◌}
+use lib.ListN.{length, take, drop}
+use Rattle.basics.proofs.Laws.{rest_is}
+use Rattle.look.proofs.Laws.{word_here, starts_word}
 use Rattle.look.proofs.word_at.Goals as goal
 
-pub returns-then-text-i : goal.returns-then-text-i
-returns-then-text-i c = word_past _ _ _ c.if-text-i.true
-
-pub returns : goal.returns
-returns c = rw rest_is at c.starts.ensures ∙ word_here _ _ _
+pub returns-in-Some : goal.returns-in-Some
+returns-in-Some c =
+    let a = c.args in
+    let r : c.in-Some.rest.now ≡ take (length a.text.now - a.i) (drop a.i a.text.now) = search rules in
+    let w = a.word.now in
+    c.starts_with.ensures.value ∙ starts_word c.in-Some.rest.now w ∙ rw (r, rest_is) (word_here a.text.now a.i w)

@@ -1,21 +1,21 @@
--- `is_name` meets its contract. The invariant: what is asked of the whole name is what is asked from here on.
+-- `is_name` meets its contract.
 -- Assumes nothing.
-use mathlib.Core.Path.{refl, sym, ◌∙◌}
-use native.Mathlib.Omega.{arith}
-use Rattle.byte_rules.proofs.NameLaws.{name_at_lem, name_end, name_other}
+use Rattle.std.proofs.Common.{rules, tests, ℕ}
+use lib.ListN.{length}
+use borrow.Author.Tests.{ne_eqb}
+use mathlib.Core.Path.{sym, ◌∙◌}
+use Rattle.std.proofs.lemmas.Iterator.{YieldsList-from_slice, YieldsList-from_zip}
+use Rattle.std.proofs.lemmas.Iterator.Search.{all_from_yields_List}
+use Rattle.byte_rules.specs.Names.{fits_sign}
+use Rattle.byte_rules.proofs.NameLaws.{name_all, name_other}
 use Rattle.byte_rules.proofs.names.is_name.Goals as goal
 
 pub returns-then-sign-name : goal.returns-then-sign-name
-returns-then-sign-name c = sym (name_other _ _ c.if-sign-name.true)
+returns-then-sign-name c =
+    all_from_yields_List (λ (p : ℕ × ℕ). fits_sign p.0 p.1) c.all.new.self _ _ c.all.ensures.ran
+    (YieldsList-from_zip (YieldsList-from_slice c.args.sign.now cc) (YieldsList-from_slice c.args.name.now cc))
+    (λ x b q k. search (rules, tests))
+    ∙ name_all _ _ c.if-sign-name.true
 
-pub loop-i-init : goal.loop-i-init
-loop-i-init c = refl
-
-pub loop-i-preserved : goal.loop-i-preserved
-loop-i-preserved c = c.loop-i.invariant ∙ name_at_lem _ _ _ (omega arith) c.loop-i-test.true ∙ rw (sym c.fits_sign.ensures ∙ c.if-fits_sign.true)
-
-pub returns-else-fits_sign : goal.returns-else-fits_sign
-returns-else-fits_sign c = sym (c.loop-i.invariant ∙ name_at_lem _ _ _ (omega arith) c.loop-i-test.true ∙ rw (sym c.fits_sign.ensures ∙ c.if-fits_sign.false))
-
-pub returns : goal.returns
-returns c = sym (c.loop-i.invariant ∙ name_end _ _ _ (omega arith) c.loop-i-test.false)
+pub returns-else-sign-name : goal.returns-else-sign-name
+returns-else-sign-name c = let a = c.args in rw (ne_eqb (length a.sign.now) (length a.name.now) c.if-sign-name.false) (sym (name_other _ _ c.if-sign-name.false))

@@ -1,66 +1,43 @@
--- `lines_between` meets its contract: the counts of the parts add up to the growth of the line since `from`.
+-- `lines_between` meets its contract: the line of `from`, what is counted, and what is to come add up to the line of `to`.
 -- Assumes nothing.
-use Prim.Native.Nat.{◌+◌}
-use mathlib.Core.Path.{◌≡◌, ap, ◌∙◌}
+use Rattle.std.proofs.Common.{rules, ◌≡◌, ◌+◌, ◌≤◌, ◌-◌, ◌<◌, ◌++◌}
+use Prim.Native.Nat.{min}
+use mathlib.Core.Path.{ap, ◌∙◌}
 use native.Mathlib.Omega.{arith}
-use Rattle.lines.specs.Lines.{line_of}
-use Rattle.lines.proofs.Laws.{line_grows, line_cut}
+use lib.ListN.{length, take, drop}
+use Rattle.std.specs.Slice.Iter.{chunks_rest}
+use Rattle.lines.specs.Lines.{lf_in}
+use Rattle.lines.proofs.Laws.{in_append, lf_nothing, line_to, line_within, line_cut, line_grows}
 use Rattle.lines.proofs.count.lines_between.Goals as goal
-use Rattle.lines.proofs.count.lines_between.Goals.{After-least-end}
+use Rattle.lines.proofs.count.lines_between.Goals.{After-from-n}
 
--- the line of `to` is that of the place that it is cut to
-module _ (c : After-least-end) where
-  cut : line_of c.args.buf.now c.least-end.result ≡ line_of c.args.buf.now c.args.to
-  cut = let a = c.args in ap (line_of a.buf.now) c.least-end.ensures ∙ line_cut a.buf.now a.to
-
-pub returns-then-end-from : goal.returns-then-end-from
-returns-then-end-from c =
-    let l = (goal.at.returns-then-end-from c).After-least-end in
-    let a = l.args in
-    omega (arith, cut l, line_grows a.buf.now l.least-end.result a.from (omega arith))
-
-pub loop-i-init : goal.loop-i-init
-loop-i-init c = omega arith
-
-pub overflow_sub-end : goal.overflow_sub-end
-overflow_sub-end c = omega arith
-
-pub overflow_add-i : goal.overflow_add-i
-overflow_add-i c = omega arith
-
-pub count_short-requires : goal.count_short-requires
-count_short-requires c = omega arith
-
-pub overflow_cast-n : goal.overflow_cast-n
-overflow_cast-n c =
+pub loop-part-init : goal.loop-part-init
+loop-part-init c =
     let a = c.args in
-    omega (arith, line_grows a.buf.now c.loop-i.i (c.loop-i.i + 240) (omega arith))
+    let w : a.from ≤ min a.to (length a.buf.now) = search rules in
+    let e : chunks_rest c.into_iter-part-iterator.result ≡ take (min a.to (length a.buf.now) - a.from) (drop a.from a.buf.now) = search rules in
+    (search rules, tt, search rules, omega (arith, line_to a.buf.now a.from a.to _ w e))
+
+-- what is to come is this part and what is to come behind it
+module _ (c : After-from-n) where
+  both : lf_in (chunks_rest c.loop-part.part-iterator) ≡ lf_in c.in-Some-part.part.now + lf_in (chunks_rest c.next.new.self)
+  both =
+      let e : chunks_rest c.loop-part.part-iterator ≡ c.in-Some-part.part.now ++ chunks_rest c.next.new.self = search rules in
+      ap lf_in e ∙ in_append c.in-Some-part.part.now (chunks_rest c.next.new.self)
 
 pub overflow_add-n : goal.overflow_add-n
-overflow_add-n c =
+overflow_add-n c = let a = c.args in omega (arith, both c, c.loop-part.invariant.3, line_within a.buf.now a.to)
+
+pub loop-part-preserved : goal.loop-part-preserved
+loop-part-preserved c = (search rules, tt, search rules, omega (arith, both c, c.loop-part.invariant.3))
+
+pub returns-in-None : goal.returns-in-None
+returns-in-None c =
+    let z : length (chunks_rest c.loop-part.part-iterator) ≡ 0 = search rules in
+    omega (arith, c.loop-part.invariant.3, lf_nothing (chunks_rest c.loop-part.part-iterator) z)
+
+pub returns-in_default : goal.returns-in_default
+returns-in_default c =
     let a = c.args in
-    omega (arith, line_grows a.buf.now a.from (c.loop-i.i + 240) (omega arith))
-
-pub overflow_add-i-in-loop-i : goal.overflow_add-i-in-loop-i
-overflow_add-i-in-loop-i c = omega arith
-
-pub loop-i-smaller : goal.loop-i-smaller
-loop-i-smaller c = omega arith
-
-pub loop-i-preserved : goal.loop-i-preserved
-loop-i-preserved c = omega arith
-
-pub count_short-requires-2 : goal.count_short-requires-2
-count_short-requires-2 c = omega arith
-
-pub overflow_cast-result : goal.overflow_cast-result
-overflow_cast-result c =
-    omega (arith, line_grows c.args.buf.now c.loop-i.i c.least-end.result (omega arith))
-
-pub overflow_add-result : goal.overflow_add-result
-overflow_add-result c =
-    let a = c.args in
-    omega (arith, line_grows a.buf.now a.from c.least-end.result (omega arith))
-
-pub returns : goal.returns
-returns c = omega (arith, cut (goal.at.returns c).After-least-end)
+    let w : min a.to (length a.buf.now) < a.from = search rules in
+    omega (arith, line_cut a.buf.now a.to, line_grows a.buf.now (min a.to (length a.buf.now)) a.from (omega arith))

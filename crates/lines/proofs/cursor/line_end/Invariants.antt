@@ -10,9 +10,3 @@ invariant-loop-far l = Clear l.buf l.from l.far
 
 abbrev pub decreases-loop-far : goal.decreases-loop-far
 decreases-loop-far l = length l.buf - l.far
-
-abbrev pub invariant-loop-i : goal.invariant-loop-i
-invariant-loop-i l = Clear l.buf l.from l.i
-
-abbrev pub decreases-loop-i : goal.decreases-loop-i
-decreases-loop-i l = length l.buf - l.i

@@ -8,7 +8,7 @@ use Rattle.scans.specs.Notes.{Holds}
 use Rattle.scans.proofs.labels.label_end.Given as goal
 
 abbrev pub invariant-loop-i : goal.invariant-loop-i
-invariant-loop-i l = (l.from ≤ l.i) × (Holds l.text l.initial.n → (label_end l.text l.from ≡ label_end l.text l.i) × Holds l.text l.n)
+invariant-loop-i l = (l.from ≤ l.i) × (Holds l.text l.initial.note → (label_end l.text l.from ≡ label_end l.text l.i) × Holds l.text l.note)
 
 abbrev pub decreases-loop-i : goal.decreases-loop-i
 decreases-loop-i l = length l.text - l.i

@@ -1,4 +1,4 @@
--- `plain_end` meets its contract. The invariant of both loops: the scan from here ends where the scan from the start does.
+-- `plain_end` meets its contract. The invariant of the loop: the scan from here ends where the scan from the start does.
 -- Assumes nothing.
 use Prim.Native.Nat.{◌-◌}
 use mathlib.Core.Path.{◌≡◌}
@@ -11,9 +11,3 @@ invariant-loop-i l = plain_end l.text l.from ≡ plain_end l.text l.i
 
 abbrev pub decreases-loop-i : goal.decreases-loop-i
 decreases-loop-i l = length l.text - l.i
-
-abbrev pub invariant-loop-i-2 : goal.invariant-loop-i-2
-invariant-loop-i-2 l = plain_end l.text l.from ≡ plain_end l.text l.i
-
-abbrev pub decreases-loop-i-2 : goal.decreases-loop-i-2
-decreases-loop-i-2 l = length l.text - l.i
