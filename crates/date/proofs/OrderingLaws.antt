@@ -3,33 +3,36 @@
 --     order_swap     the other way round, earlier is later
 --     order_same     a date is equal to itself
 --     order_equal    and to no other
+--     order_is       the derived order of dates is this one
 --     order_after    a date earlier than one that is earlier than a third is earlier than the third
 -- Assumes nothing.
 use Prim.Native.Nat.{ℕ, ◌-◌, ◌<◌}
-use mathlib.Core.Path.{◌≡◌, refl}
+use mathlib.Core.Path.{◌≡◌, refl, ap, ◌∙◌}
 use mathlib.Core.Bool.{Bool, true, false, cond}
 use mathlib.Core.Logic.{◌⊎◌, inl, inr, ⊎_elim}
 use native.Mathlib.Omega.{arith}
 use lib.Dec.{ltb, eqb}
 use lib.ListN.{get_or}
 use borrow.Author.Tests.{lt-ltb, le-ltb, ltb-true, ltb-false}
-use Rattle.records.specs.Answer.{Answer}
+use Rattle.records.specs.Answer.{Answer, done}
 use Rattle.records.proofs.Answers.{coincide}
-use Rattle.date.specs.Ordering.{order_answer, first_of, order}
+use Rattle.std.specs.Ordering.{nat_cmp, ordering_then}
+use Rattle.std.proofs.lemmas.Bool.Decides.{nat_tests}
+use Rattle.date.specs.Ordering.{order_number, order_answer, first_of, order, compare_answer}
 use Rattle.date.specs.declared.Date.{Date}
-use Rattle.date.specs.declared.Order.{Order}
-use Rattle.date.specs.declared.Order.TheVariants.{Earlier, Equal, Later}
+use Rattle.std.specs.declared.cmp.Ordering.{Ordering}
+use Rattle.std.specs.declared.cmp.Ordering.TheVariants.{Less, Equal, Greater}
 
-order_back : Answer → Order
-order_back a = let n = get_or a.values 0 0 in cond (eqb n 1) Earlier (cond (eqb n 2) Equal Later)
+order_back : Answer → Ordering
+order_back a = let n = get_or a.values 0 0 in cond (eqb n 1) Less (cond (eqb n 2) Equal Greater)
 
-order_back_lem : (r : Order) → order_back (order_answer r) ≡ r
+order_back_lem : (r : Ordering) → order_back (order_answer r) ≡ r
 unfolding order_back
-order_back_lem Earlier = refl
+order_back_lem Less = refl
 order_back_lem Equal = refl
-order_back_lem Later = refl
+order_back_lem Greater = refl
 
-pub order_one : (a : Answer) (x y : Order) → order_answer x ≡ a → order_answer y ≡ a → x ≡ y
+pub order_one : (a : Answer) (x y : Ordering) → order_answer x ≡ a → order_answer y ≡ a → x ≡ y
 order_one = coincide order_answer order_back order_back_lem
 
 -- by one number, before the rest: smaller, equal, and what an answer tells
@@ -74,6 +77,21 @@ first_after a b c r s t rest p q =
     ⊎_elim (λ ab. ⊎_elim (λ bc. first_less a c t (omega arith)) (λ bc. first_less a c t (omega arith)) (first_one b c s q))
     (λ ab. ⊎_elim (λ bc. first_less a c t (omega arith)) (λ bc. rw (ab.0, bc.0, first_same) (rest ab.1 bc.1)) (first_one b c s q))
     (first_one a b r p)
+
+-- two numbers compared, and then the rest
+first_is : (a b : ℕ) (rest : Ordering) → order_number (ordering_then (nat_cmp a b) rest) ≡ first_of a b (order_number rest)
+unfolding first_of
+first_is a b rest = grind (arith, nat_tests)
+
+last_is : (a b : ℕ) → order_number (nat_cmp a b) ≡ first_of a b 2
+unfolding first_of
+last_is a b = grind (arith, nat_tests)
+
+-- the derived order of dates is this one
+pub order_is : (a b : Date) → order_answer (ordering_then (nat_cmp a.year b.year) (ordering_then (nat_cmp a.month b.month) (nat_cmp a.day b.day))) ≡ compare_answer a b
+unfolding order
+order_is a b =
+    ap done (first_is a.year b.year _ ∙ ap (first_of a.year b.year) (first_is a.month b.month _ ∙ ap (first_of a.month b.month) (last_is a.day b.day)))
 
 pub order_same : (a : Date) → order a a ≡ 2
 unfolding order

@@ -4,4 +4,3 @@ pub mod Reading
 pub mod Writing
 pub mod Ordering
 pub mod Calendar
-pub mod Bounds

@@ -2,16 +2,16 @@
 use Rattle.std.specs.Prelude.{ℕ, cond, ltb}
 use Rattle.records.specs.Answer.{Answer, done}
 use Rattle.date.specs.declared.Date.{Date}
-use Rattle.date.specs.declared.Order.{Order}
-use Rattle.date.specs.declared.Order.TheVariants.{Earlier, Equal, Later}
+use Rattle.std.specs.declared.cmp.Ordering.{Ordering}
+use Rattle.std.specs.declared.cmp.Ordering.TheVariants.{Less, Equal, Greater}
 
-abbrev pub order_number : Order → ℕ
-order_number Earlier = 1
+abbrev pub order_number : Ordering → ℕ
+order_number Less = 1
 order_number Equal = 2
-order_number Later = 3
+order_number Greater = 3
 
 -- document 01's answer: 0, with the number
-abbrev pub order_answer : Order → Answer
+abbrev pub order_answer : Ordering → Answer
 order_answer o = done (order_number o)
 
 -- by two numbers, and where they are equal by the rest

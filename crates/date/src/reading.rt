@@ -1,120 +1,86 @@
 // A date is read.
-ghost use Rattle.std.specs.Prelude.{◌≡◌, ◌+◌, ◌≤◌, length};
-ghost use Rattle.date.specs.Bounds.{Below};
+ghost use Rattle.std.specs.Prelude.{◌≡◌, ◌+◌, ◌≤◌, length, [], ◌∷◌, position, ◌==◌};
+ghost use lib.Pointwise.{pointwise};
 ghost use Rattle.date.specs.Numbers.{digits, number};
-ghost use Rattle.date.specs.Months.{is_month_name, month_of};
-ghost use Rattle.date.specs.Reading.{date_of, fields, date_answer, read_answer};
+ghost use Rattle.date.specs.Months.{names, month_of};
+ghost use Rattle.date.specs.Reading.{fields, date_answer, read_answer};
 
-use crate::{Date, DateRead, letter};
+use crate::{Date, NAMES};
 use byte_rules::is_digit;
-
-// What some bytes are, read as a number.
-#[derive(Clone, Copy)]
-enum Number {
-    Is(u16),
-    No,
-}
+use records::Refusal;
 
 // Digits, at least one.
 #[tactic(auto, using(crate::proofs::NumberLaws::digits_none))]
-fn read_digits(s: &[u8]) -> Number
+fn read_digits(s: &[u8]) -> Option<u16>
     requires { length s.now ≤ 4 }
     ensures { result ≡ digits s.now }
 {
-    if s.len() == 0 {
-        return Number::No;
+    if s.is_empty() {
+        return None;
     }
-    let mut n: u16 = 0;
-    let mut i = 0;
-    while i < s.len() {
-        let b = s[i];
-        if is_digit(b) {
-            n = n * 10 + (b - b'0') as u16;
-            i += 1;
-        } else {
-            return Number::No;
+    let mut n = 0;
+    for b in s {
+        if !is_digit(*b) {
+            return None;
         }
+        n = n * 10 + u16::from(*b - b'0');
     }
-    Number::Is(n)
+    Some(n)
 }
 
 // Digits, one leading `+` allowed if a digit follows.
-fn read_number(field: &[u8]) -> Number
+#[tactic(auto, using(crate::proofs::NumberLaws::number_empty, crate::proofs::NumberLaws::number_plus, crate::proofs::NumberLaws::number_plain))]
+fn read_number(field: &[u8]) -> Option<u16>
     requires { length field.now ≤ 4 }
     ensures { result ≡ number field.now }
 {
-    if field.len() == 0 {
-        return Number::No;
+    match field {
+        [b'+', rest @ ..] => read_digits(rest),
+        _ => read_digits(field),
     }
-    if field[0] == b'+' {
-        return read_digits(&field[1..]);
-    }
-    read_digits(field)
 }
 
-// Whether the name of month m is a, b, c.
-fn is_month_name(m: usize, a: u8, b: u8, c: u8) -> bool
-    requires { (1 ≤ m) × (m ≤ 12) }
-    ensures { result ≡ is_month_name m a b c }
+// How many months stand before the one that a, b, c name.
+#[tactic(auto, unfolding(crate::specs::Months::names))]
+fn months_before(a: u8, b: u8, c: u8) -> Option<usize>
+    ensures { result ≡ position (λ month. pointwise ◌==◌ month (a ∷ b ∷ c ∷ [])) names }
 {
-    (letter(m, 0) == a) & (letter(m, 1) == b) & (letter(m, 2) == c)
+    NAMES.iter().position(|month| *month == [a, b, c])
 }
 
-// The month that a, b, c name.
-fn month_of(a: u8, b: u8, c: u8) -> Number
+// The month that a, b, c name, counted from 1.
+fn month_of(a: u8, b: u8, c: u8) -> Option<u8>
     ensures { result ≡ month_of a b c }
 {
-    let mut m: usize = 1;
-    while m <= 12 {
-        if is_month_name(m, a, b, c) {
-            return Number::Is(m as u16);
-        }
-        m += 1;
-    }
-    Number::No
-}
-
-// The date of a day, a month and a year, each of which must be one.
-fn date_of(day: Number, month: Number, year: Number) -> DateRead
-    requires { Below 256 day × Below 256 month }
-    ensures { result ≡ date_of day month year }
-{
-    let Number::Is(d) = day else {
-        return DateRead::NoDate;
-    };
-    let Number::Is(m) = month else {
-        return DateRead::NoDate;
-    };
-    let Number::Is(y) = year else {
-        return DateRead::NoDate;
-    };
-    DateRead::Read(Date {
-        year: y,
-        month: m as u8,
-        day: d as u8,
-    })
+    let before = months_before(a, b, c)?;
+    Some(before as u8 + 1)
 }
 
 // A date whose day has k bytes.
-fn read_fields(s: &[u8], k: usize) -> DateRead
+fn read_fields(s: &[u8], k: usize) -> Option<Date>
     requires { (k ≤ 2) × (length s.now ≡ k + 9) }
     ensures { result ≡ fields k s.now }
 {
-    let day = read_number(&s[..k]);
-    let month = month_of(s[k + 1], s[k + 2], s[k + 3]);
-    let year = read_number(&s[k + 5..]);
-    date_of(day, month, year)
+    let day = read_number(&s[..k])?;
+    let month = month_of(s[k + 1], s[k + 2], s[k + 3])?;
+    let year = read_number(&s[k + 5..])?;
+    Some(Date {
+        year,
+        month,
+        // Two digits at most, so it fits.
+        day: day as u8,
+    })
 }
 
 // The date that the bytes are, if they are one.
-pub fn read_date(bytes: &[u8]) -> DateRead
+#[tactic(auto, using(std::proofs::lemmas::Bool::Decides::nat_tests), unfolding(crate::specs::Reading::read_date))]
+pub fn read_date(bytes: &[u8]) -> Result<Date, Refusal>
     ensures { date_answer result ≡ read_answer bytes.now }
 {
-    if bytes.len() == 10 {
-        return read_fields(bytes, 1);
-    }
-    if bytes.len() == 11 {
-        return read_fields(bytes, 2);
-    }
-    DateRead::NoDate
+    let date = match bytes.len() {
+        10 => read_fields(bytes, 1),
+        11 => read_fields(bytes, 2),
+        _ => None,
+    };
+    date.ok_or(Refusal::NoDate)
 }

@@ -5,75 +5,66 @@ ghost use Rattle.records.specs.Records.{text_answer, text_left};
 ghost use Rattle.records.specs.Over.{over};
 ghost use Rattle.date.specs.Writing.{month_text, year_text, date_text, write_refusal};
 
-use crate::{Date, letter};
+use crate::{Date, NAMES};
 use decimal::{decimal_len, put_decimal};
-use records::{Filled, Refusal};
+use records::{FillError, Refusal, fits};
 
 // How many bytes a year takes.
+#[tactic(auto, using(crate::proofs::WritingLaws::length_year))]
 fn year_len(year: u16) -> usize
     ensures { result ≡ length (year_text year) }
 {
-    let digits = decimal_len(year as u64);
-    if digits < 4 { 4 } else { digits }
+    decimal_len(u64::from(year)).max(4)
 }
 
 // How many bytes a date takes.
 fn date_len(date: Date) -> usize
     ensures { result ≡ length (date_text date) }
 {
-    decimal_len(date.day as u64) + 5 + year_len(date.year)
+    decimal_len(u64::from(date.day)) + 5 + year_len(date.year)
 }
 
 // Writes the month's name between its separators at the front of `out`, which has room for them.
-fn put_month(month: usize, out: &mut [u8])
+fn put_month(month: u8, out: &mut [u8])
     requires { (1 ≤ month) × ((month ≤ 12) × (5 ≤ length out.old)) }
     ensures { out.new ≡ over (month_text month) out.old }
 {
-    out[0] = b'-';
-    out[1] = letter(month, 0);
-    out[2] = letter(month, 1);
-    out[3] = letter(month, 2);
-    out[4] = b'-';
+    let [a, b, c] = NAMES[usize::from(month) - 1];
+    out[..5].copy_from_slice(&[b'-', a, b, c, b'-']);
 }
 
-// Writes the year, of at least four digits, at the front of `out`, which has room for it.
+// Writes the year, of at least four digits, at the front of `out`, which has room for it: so `put_decimal` refuses nothing.
 fn put_year(year: u16, out: &mut [u8])
     requires { length (year_text year) ≤ length out.old }
     ensures { out.new ≡ over (year_text year) out.old }
 {
-    let digits = decimal_len(year as u64);
-    let mut at: usize = 0;
-    while at + digits < 4 {
-        out[at] = b'0';
-        at += 1;
-    }
-    put_decimal(&mut out[at..], year as u64);
+    let zeros = 4usize.saturating_sub(decimal_len(u64::from(year)));
+    out[..zeros].copy_from_slice(&b"0000"[..zeros]);
+    let _ = put_decimal(&mut out[zeros..], u64::from(year));
 }
 
-// Writes the date at the front of `out`, which has room for it.
+// Writes the date at the front of `out`, which has room for it: so `put_decimal` refuses nothing.
 fn put_date(date: Date, out: &mut [u8])
     requires { (1 ≤ date.month) × ((date.month ≤ 12) × (length (date_text date) ≤ length out.old)) }
     ensures { out.new ≡ over (date_text date) out.old }
 {
-    let at = decimal_len(date.day as u64);
-    put_decimal(out, date.day as u64);
-    put_month(date.month as usize, &mut out[at..]);
+    let at = decimal_len(u64::from(date.day));
+    let _ = put_decimal(out, u64::from(date.day));
+    put_month(date.month, &mut out[at..]);
     let end = at + 5;
     put_year(date.year, &mut out[end..]);
 }
 
 // Writes the date at the front of `out`, all of it or nothing.
-pub fn write_date(date: Date, out: &mut [u8]) -> Filled
+#[tactic(auto, using(std::proofs::lemmas::Bool::Decides::nat_tests), unfolding(records::specs::Records::text_answer, records::specs::Records::text_left, records::specs::Records::put, records::specs::Over::over, crate::specs::Writing::write_refusal))]
+pub fn write_date(date: Date, out: &mut [u8]) -> Result<usize, FillError>
     ensures answer { filled_answer result ≡ text_answer (write_refusal date) (date_text date) (length out.old) }
     ensures left { out.new ≡ text_left (write_refusal date) (date_text date) out.old }
 {
-    if (date.month == 0) | (12 < date.month) {
-        return Filled::Refused(Refusal::BadMonth);
+    if !(1..=12).contains(&date.month) {
+        return Err(FillError::Refused(Refusal::BadMonth));
     }
-    let needed = date_len(date);
-    if out.len() < needed {
-        return Filled::Short(needed);
-    }
+    let needed = fits(date_len(date), out.len())?;
     put_date(date, out);
-    Filled::Done(needed)
+    Ok(needed)
 }

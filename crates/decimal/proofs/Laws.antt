@@ -2,10 +2,11 @@
 --     decimal_small    a number below ten is its own digit
 --     decimal_more     any other: the digits of the number divided by ten, then the last digit
 --     length_small, length_more    the same of how many digits there are
+--     length_between   the same of a number between two powers of ten
 --     length_some      there is a digit
 --     length_below     a number below 10 ^ k has at most k digits, for k from 1
 -- Assumes nothing.
-use Prim.Native.Nat.{ℕ, zero, suc, ◌+◌, ◌/◌, ◌%◌, ◌^◌, ◌<◌, ◌≤◌}
+use Prim.Native.Nat.{ℕ, zero, suc, ◌+◌, ◌*◌, ◌/◌, ◌%◌, ◌^◌, ◌<◌, ◌≤◌}
 use mathlib.Core.Path.{◌≡◌, refl, ap, ◌∙◌}
 use mathlib.Core.List.{[], ◌∷◌, ◌++◌}
 use mathlib.Core.Bool.{Bool, true, false}
@@ -40,6 +41,18 @@ length_small n h = ap length (decimal_small n h)
 
 pub length_more : (n : ℕ) → 10 ≤ n → length (decimal n) ≡ length (decimal (n / 10)) + 1
 length_more n h = ap length (decimal_more n h) ∙ simp length-append
+
+ten_some : (k : ℕ) → 1 ≤ 10 ^ k
+ten_some zero = omega arith
+ten_some (suc k) = omega (arith, pow-suc 10 k, ten_some k)
+
+-- between two powers of ten
+pub length_between : (k n : ℕ) → 10 ^ k ≤ n → n < 10 * 10 ^ k → length (decimal n) ≡ k + 1
+length_between zero n h l = length_small n (omega (arith, l)) ∙ omega arith
+length_between (suc k) n h l =
+    let p = pow-suc 10 k in
+    let ih = length_between k (n / 10) (omega (arith, h, l, p)) (omega (arith, h, l, p)) in
+    length_more n (omega (arith, h, p, ten_some k)) ∙ omega (arith, ih)
 
 pub length_some : (n : ℕ) → 1 ≤ length (decimal n)
 length_some n = go (ltb n 10) refl

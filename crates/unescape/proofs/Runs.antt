@@ -1,15 +1,20 @@
 -- Plain bytes stand for themselves: none of them is an escape byte, whosever the escapes are.
 -- Assumes nothing.
 use Prim.Native.Nat.{ℕ, ◌+◌, ◌≤◌, ◌<◌}
-use mathlib.Core.Path.{◌≡◌, ap}
+use mathlib.Core.Path.{◌≡◌, ap, sym, ◌∙◌}
 use mathlib.Core.Bool.{false}
-use mathlib.Core.List.{List, ◌∷◌}
+use mathlib.Core.List.{List, [], ◌∷◌, ◌++◌, append_assoc}
 use native.Mathlib.Omega.{arith}
 use lib.Dec.{eqb}
-use lib.ListN.{length, drop, get_or}
+use lib.ListN.{length, take, drop, get_or}
+use lib.Seq.{drop_at, take-suc, length-take-le}
+use native.Mathlib.Numerals.{add-one}
+use Rattle.std.proofs.lemmas.List.{drop-take, drop-append-le}
 use Rattle.byte_rules.proofs.Laws.{no_text_escape, no_label_escape, no_math_escape}
 use Rattle.scans.specs.Marks.{tick, tilde, lbracket, under}
-use Rattle.scans.specs.Plain.{active_at, plain_end}
+use Rattle.scans.specs.Plain.{active_at, plain_end, plain_step}
+use Rattle.scans.proofs.Laws.{scan_ge, scan_le}
+use native.Mathlib.Nat.{le_refl}
 use Rattle.scans.proofs.PlainLaws.{plain_byte, run_keeps}
 use Rattle.unescape.specs.Unescape.{is_escape, unescaped, step_at}
 use Rattle.unescape.specs.declared.Escape.{Escape}
@@ -21,6 +26,13 @@ none_of : (kind : Escape) (c : ℕ) → eqb c tick ≡ false → eqb c lbracket 
 none_of (Text html) c a b d e = no_text_escape c a b d html e
 none_of Label c a b d e = no_label_escape c a b d
 none_of Math c a b d e = no_math_escape c a
+
+-- a run of plain bytes ends in the text, and not before it begins
+pub run_ahead : (s : List ℕ) (i : ℕ) → i ≤ length s → i ≤ plain_end s i
+run_ahead s i h = scan_ge (plain_step s) (length s) i i (le_refl i) h
+
+pub run_within : (s : List ℕ) (i : ℕ) → plain_end s i ≤ length s
+run_within s i = scan_le (plain_step s) (length s) i
 
 module _ (kind : Escape) (s : List ℕ) where
   module _ (i : ℕ) (h : i < length s) (m : active_at s i ≡ false) where
@@ -35,6 +47,24 @@ module _ (kind : Escape) (s : List ℕ) where
   -- the bytes up to i, and those to come unescaped
   abbrev total : ℕ → ℕ
   total i = i + length (unescaped (is_escape kind) (drop i s))
+
+  -- a run of plain bytes stands for itself
+  run_with : ℕ → List ℕ
+  run_with i = take i s ++ unescaped (is_escape kind) (drop i s)
+
+  run_step : (k : ℕ) → k < length s → active_at s k ≡ false → run_with k ≡ run_with (k + 1)
+  unfolding run_with
+  run_step k l m = rw (plain_first k l m, add-one, take-suc s k 0 l) (sym (append_assoc (take k s) (get_or s k 0 ∷ []) _))
+
+  pub run_same : (i m p : ℕ) → p ≡ plain_end s i → i + m ≡ p → p ≤ length s
+      → unescaped (is_escape kind) (drop i s) ≡ take m (drop i s) ++ unescaped (is_escape kind) (drop p s)
+  unfolding run_with
+  run_same i m p run e h =
+      let all : run_with i ≡ run_with p = run_keeps s run_with run_step i (omega arith) ∙ ap run_with (sym run) in
+      let front : drop i (run_with i) ≡ unescaped (is_escape kind) (drop i s) = drop_at (take i s) _ i (length-take-le i s (omega arith)) in
+      let part : drop i (take p s) ≡ take m (drop i s) = ap (λ (k : ℕ). drop i (take k s)) (sym e) ∙ drop-take i m s in
+      sym front ∙ ap (drop i) all ∙ drop-append-le i (take p s) _ (omega (arith, length-take-le p s h, e))
+      ∙ ap (λ (l : List ℕ). l ++ unescaped (is_escape kind) (drop p s)) part
 
   -- a run of plain bytes is as long unescaped
   pub run_length : (i p : ℕ) → p ≡ plain_end s i → i ≤ length s → total i ≡ total p

@@ -1,10 +1,8 @@
 -- `unescape::put_unescaped` meets its contract: what is to come of the unescaped text is the rest of the text, unescaped.
 -- Assumes nothing.
-use Prim.Native.Nat.{ℕ, ◌-◌, ◌≤◌}
-use mathlib.Core.Path.{◌≡◌}
+use Prim.Native.Nat.{ℕ, ◌-◌}
 use mathlib.Core.List.{List}
 use lib.ListN.{length, drop}
-use Rattle.scans.specs.Plain.{plain_end}
 use Rattle.unescape.specs.Unescape.{is_escape, unescaped}
 use Rattle.unescape.specs.declared.Escape.{Escape}
 use Rattle.unescape.proofs.Writing.{Writing}
@@ -13,12 +11,6 @@ use Rattle.unescape.proofs.put_unescaped.Given as goal
 -- the text in the room: all but the rest from i on is written
 abbrev pub Wrote : Escape → List ℕ → ℕ → List ℕ → List ℕ → ℕ → Type 0
 Wrote kind text i out₀ out n = Writing (unescaped (is_escape kind) text) (unescaped (is_escape kind) (drop i text)) out₀ out n
-
-abbrev pub invariant-loop-from-2 : goal.invariant-loop-from-2
-invariant-loop-from-2 l = ((o : List ℕ) → Wrote l.kind l.text l.initial.from o l.initial.out l.initial.at → Wrote l.kind l.text l.from o l.out l.at) × (l.p ≡ plain_end l.text l.from) × (l.from ≤ l.p)
-
-abbrev pub decreases-loop-from-2 : goal.decreases-loop-from-2
-decreases-loop-from-2 l = l.p - l.from
 
 abbrev pub invariant-loop-from : goal.invariant-loop-from
 invariant-loop-from l = Wrote l.kind l.text l.from l.initial.out l.out l.at

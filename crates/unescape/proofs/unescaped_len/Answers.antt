@@ -2,19 +2,13 @@
 -- Assumes nothing.
 use Prim.Native.Nat.{ℕ, ◌+◌, ◌≤◌}
 use mathlib.Core.Path.{◌≡◌, ap}
-use native.Mathlib.Nat.{le_refl}
 use native.Mathlib.Omega.{arith}
 use lib.ListN.{length, drop}
-use Rattle.scans.specs.Plain.{plain_step}
-use Rattle.scans.proofs.Laws.{scan_ge}
 use Rattle.unescape.specs.Unescape.{is_escape, unescaped}
-use Rattle.unescape.proofs.Laws.{unescaped_step, unescaped_end, unescaped_length, step_some, step_within}
-use Rattle.unescape.proofs.Runs.{run_length}
+use Rattle.unescape.proofs.Laws.{unescaped_step, unescaped_end, unescaped_length}
+use Rattle.unescape.proofs.Runs.{run_ahead, run_length}
 use Rattle.unescape.proofs.unescaped_len.Goals as goal
 use Rattle.unescape.proofs.unescaped_len.Goals.{After-plain_end-p}
-
-pub loop-i-init : goal.loop-i-init
-loop-i-init c = omega arith
 
 -- behind the run of plain bytes
 module _ (c : After-plain_end-p) where
@@ -31,16 +25,13 @@ module _ (c : After-plain_end-p) where
   inside = omega (arith, c.loop-i-test.true)
 
   past : i ≤ p
-  past = let s = c.args.text.now in omega (arith, c.plain_end-p.ensures, scan_ge (plain_step s) (length s) i i (le_refl i) inside)
+  past = omega (arith, c.plain_end-p.ensures, run_ahead c.args.text.now i inside)
 
   run : i + to_come_lem i ≡ p + to_come_lem p
   run = run_length c.args.kind c.args.text.now i p c.plain_end-p.ensures inside
 
   few : length (unescaped (is_escape c.args.kind) c.args.text.now) ≤ length c.args.text.now
   few = unescaped_length (is_escape c.args.kind) c.args.text.now
-
-pub overflow_sub-n : goal.overflow_sub-n
-overflow_sub-n c = past c
 
 pub overflow_add-n : goal.overflow_add-n
 overflow_add-n c = omega (arith, run c, past c, few c, c.loop-i.invariant)
@@ -51,23 +42,11 @@ returns-then-text-p c =
     let a = r.args in
     omega (arith, run r, past r, r.loop-i.invariant, ap length (unescaped_end (is_escape a.kind) a.text.now (p r) c.if-text-p.true))
 
-pub overflow_add-i : goal.overflow_add-i
-overflow_add-i c =
-    let r = (goal.at.overflow_add-i c).After-plain_end-p in
-    let a = r.args in
-    omega (arith, c.unescape_step.ensures, step_within (is_escape a.kind) a.text.now (p r) c.if-text-p.false)
-
 pub overflow_add-n-in-loop-i : goal.overflow_add-n-in-loop-i
 overflow_add-n-in-loop-i c =
     let r = (goal.at.overflow_add-n-in-loop-i c).After-plain_end-p in
     let a = r.args in
     omega (arith, run r, few r, past r, r.loop-i.invariant, ap length (unescaped_step (is_escape a.kind) a.text.now (p r) c.if-text-p.false))
-
-pub loop-i-smaller : goal.loop-i-smaller
-loop-i-smaller c =
-    let r = (goal.at.loop-i-smaller c).After-plain_end-p in
-    let a = r.args in
-    omega (arith, past r, c.if-text-p.false, c.unescape_step.ensures, step_some (is_escape a.kind) a.text.now (p r))
 
 pub loop-i-preserved : goal.loop-i-preserved
 loop-i-preserved c =

@@ -1,40 +1,28 @@
--- `month_of` meets its contract. The invariant: the search from here gives what the search from the start gives.
+-- `month_of` meets its contract: the place of the name is the month before.
 -- Assumes nothing.
-use mathlib.Core.Path.{refl, sym, ◌∙◌}
+use mathlib.Core.Path.{◌≡◌, ap, sym, ◌∙◌}
 use native.Mathlib.Omega.{arith}
+use Prim.Native.Nat.{◌+◌}
+use Rattle.std.specs.Prelude.{Some}
+use Rattle.std.specs.Option.{option_map}
 use Rattle.date.specs.Months.{month_of}
-use Rattle.date.proofs.MonthLaws.{month_found, month_next, month_none}
+use Rattle.date.proofs.MonthLaws.{month_place, month_most}
 use Rattle.date.proofs.reading.month_of.Goals as goal
+use Rattle.date.proofs.reading.month_of.Goals.{In_ok-before}
 
-pub loop-m-init : goal.loop-m-init
-unfolding month_of
-loop-m-init c = (omega arith, (omega arith, refl))
+pub returns-in_err-before : goal.returns-in_err-before
+returns-in_err-before c =
+    c.from_residual.ensures ∙ ap (option_map (λ before. before + 1)) (sym c.in_err-before.was ∙ c.months_before.ensures) ∙ month_place c.args.a c.args.b c.args.c
+
+-- the month, where the name has a place
+named : (c : In_ok-before) → ◌≡◌ (Some (c.in_ok-before.before + 1)) (month_of c.args.a c.args.b c.args.c)
+named c = ap (option_map (λ before. before + 1)) (sym c.in_ok-before.was ∙ c.months_before.ensures) ∙ month_place c.args.a c.args.b c.args.c
 
 pub overflow_cast-result : goal.overflow_cast-result
-overflow_cast-result c = omega arith
+overflow_cast-result c = omega (arith, month_most _ _ _ _ (sym (named (goal.at.overflow_cast-result c).In_ok-before)))
 
-pub returns-then-is_month_name : goal.returns-then-is_month_name
-returns-then-is_month_name c =
-    let a = c.args in
-    let l = c.loop-m in
-    let named = sym c.is_month_name.ensures ∙ c.if-is_month_name.true in
-    sym (month_found l.m a.a a.b a.c c.loop-m-test.true named) ∙ l.invariant.1.1
-
-pub overflow_add-m : goal.overflow_add-m
-overflow_add-m c = omega arith
-
-pub loop-m-smaller : goal.loop-m-smaller
-loop-m-smaller c = omega arith
-
-pub loop-m-preserved : goal.loop-m-preserved
-loop-m-preserved c =
-    let a = c.args in
-    let l = c.loop-m in
-    let other = sym c.is_month_name.ensures ∙ c.if-is_month_name.false in
-    (omega arith, (omega arith, sym (month_next l.m a.a a.b a.c c.loop-m-test.true other) ∙ l.invariant.1.1))
+pub overflow_add-result : goal.overflow_add-result
+overflow_add-result c = omega (arith, month_most _ _ _ _ (sym (named (goal.at.overflow_add-result c).In_ok-before)))
 
 pub returns : goal.returns
-returns c =
-    let a = c.args in
-    let l = c.loop-m in
-    sym (month_none l.m a.a a.b a.c c.loop-m-test.false) ∙ l.invariant.1.1
+returns c = named (goal.at.returns c).In_ok-before

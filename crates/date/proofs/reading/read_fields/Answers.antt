@@ -9,28 +9,30 @@ use Rattle.records.proofs.Laying.{tail_is}
 use Rattle.date.specs.Numbers.{number}
 use Rattle.date.specs.Reading.{fields}
 use Rattle.date.proofs.NumberLaws.{number_below, ten_below}
-use Rattle.date.proofs.MonthLaws.{month_most}
 use Rattle.date.proofs.reading.read_fields.Goals as goal
 
-pub slice_bounds-read_number-end : goal.slice_bounds-read_number-end
-slice_bounds-read_number-end c = sym (length-take-le _ _ (omega arith))
+pub returns-in_err-day : goal.returns-in_err-day
+unfolding fields
+returns-in_err-day c = rw (← c.read_number.ensures, c.in_err-day.was) c.from_residual.ensures
 
-pub read_number-day-requires : goal.read_number-day-requires
-read_number-day-requires c = let a = c.args in rw (length-take-le a.k a.s.now (omega arith)) (omega arith)
+pub returns-in_err-month : goal.returns-in_err-month
+unfolding fields
+returns-in_err-month c = rw (← c.read_number.ensures, c.in_ok-day.was, ← c.month_of.ensures, c.in_err-month.was) c.from_residual-in_err-month.ensures
 
-pub date_of-requires : goal.date_of-requires
-date_of-requires c =
+pub returns-in_err-year : goal.returns-in_err-year
+unfolding fields
+returns-in_err-year c =
+    let year = c.read_number-2.ensures ∙ ap number (tail_is (c.args.k + 5) c.args.s.now) in
+    rw (← c.read_number.ensures, c.in_ok-day.was, ← c.month_of.ensures, c.in_ok-month.was, ← year, c.in_err-year.was) c.from_residual-in_err-year.ensures
+
+pub overflow_cast-result : goal.overflow_cast-result
+overflow_cast-result c =
     let a = c.args in
-    let day = c.read_number-day in
-    let month = c.month_of-month in
-    let long = length-take-le a.k a.s.now (omega arith) in (
-      (λ n e. omega (arith, ten_below 2 _ n (number_below (take a.k a.s.now) n (sym day.ensures ∙ e)) (rw long (omega arith)))),
-      (λ n e. omega (arith, month_most _ _ _ n (sym month.ensures ∙ e))),
-    )
+    let long = length-take-le a.k a.s.now (omega arith) in
+    omega (arith, ten_below 2 _ c.in_ok-day.day (number_below (take a.k a.s.now) c.in_ok-day.day (sym c.read_number.ensures ∙ c.in_ok-day.was)) (rw long (omega arith)))
 
 pub returns : goal.returns
 unfolding fields
 returns c =
-    let a = c.args in
-    let year = c.read_number-year.ensures ∙ ap number (tail_is (a.k + 5) a.s.now) in
-    c.date_of.ensures ∙ rw (c.read_number-day.ensures, c.month_of-month.ensures, year)
+    let year = c.read_number-2.ensures ∙ ap number (tail_is (c.args.k + 5) c.args.s.now) in
+    rw (← c.read_number.ensures, c.in_ok-day.was, ← c.month_of.ensures, c.in_ok-month.was, ← year, c.in_ok-year.was)

@@ -17,7 +17,7 @@ use Rattle.date.proofs.writing.put_date.Goals.{After-slice_known-2-1}
 -- behind the day there is room for the month and the year
 rest_fits : (c : After-slice_known-2-1) → c.decimal_len-at.result + 5 + length (year_text c.args.date.year) ≤ length c.put_decimal.new.out
 rest_fits c =
-    omega (arith, c.out-1.given, c.decimal_len-at.ensures, length_date c.args.date, c.requires.1.1)
+    omega (arith, c.out-1.given, rw c.from.ensures at c.decimal_len-at.ensures, length_date c.args.date, c.requires.1.1)
 
 pub slice_bounds-put_month-count : goal.slice_bounds-put_month-count
 slice_bounds-put_month-count c = omega (arith, rest_fits (goal.at.slice_bounds-put_month-count c).After-slice_known-2-1)
@@ -55,12 +55,13 @@ returns c =
     let d = c.args.date in
     let room = c.args.out.now in
     let at = c.decimal_len-at in
+    let day = rw c.from.ensures at at.ensures in
     let out = c.put_decimal in
     let out2 = c.put_month in
     let out3 = c.put_year in
     let front = decimal d.day ++ month_text d.month in
-    let end : at.result + 5 ≡ length front = omega (arith, at.ensures, length-append (decimal d.day) (month_text d.month), length_month d.month) in
-    let day_is = out.ensures.left ∙ over_left (decimal d.day) room (omega (arith, length_date d, c.requires.1.1)) in
-    let month_is = over_then (decimal d.day) (month_text d.month) room out.new.out out2.new.out at.result at.ensures day_is out2.ensures in
+    let end : at.result + 5 ≡ length front = omega (arith, day, length-append (decimal d.day) (month_text d.month), length_month d.month) in
+    let day_is = rw c.from-2.ensures at out.ensures.left ∙ over_left (decimal d.day) room (omega (arith, length_date d, c.requires.1.1)) in
+    let month_is = over_then (decimal d.day) (month_text d.month) room out.new.out out2.new.out at.result day day_is out2.ensures in
     over_then front (year_text d.year) room (put_mid at.result (length out.new.out - at.result) out.new.out out2.new.out)
     out3.new.out (at.result + 5) end month_is out3.ensures

@@ -1,63 +1,56 @@
--- `put_year` meets its contract. The invariant: so many zeros are written.
+-- `put_year` meets its contract: so many zeros, then the digits in the tail that is left.
 -- Assumes nothing.
 use Prim.Native.Nat.{ℕ, ◌+◌, ◌-◌, ◌≤◌}
-use mathlib.Core.Path.{refl, ap, sym, ◌∙◌}
-use mathlib.Core.List.{List}
+use mathlib.Core.Path.{◌≡◌, ap, sym, ◌∙◌}
+use mathlib.Core.List.{List, ◌++◌}
 use native.Mathlib.Omega.{arith}
-use lib.ListN.{length, replicate, length-set, length-replicate, length-drop}
+use lib.ListN.{length, drop, replicate, length-replicate, length-drop}
+use lib.Seq.{length-take-le}
 use borrow.Rule.Slice.PartMut.{mid_of}
 use Rattle.decimal.specs.Decimal.{decimal}
 use Rattle.records.specs.Over.{over}
-use Rattle.records.proofs.Over.{over_left, over_then}
+use Rattle.records.proofs.Over.{over_left, over_long, over_then}
 use Rattle.records.proofs.Laying.{tail_is}
-use Rattle.date.proofs.WritingLaws.{year_is, length_year, zeros_more}
+use Rattle.date.proofs.WritingLaws.{year_is, length_year, zeros_are}
 use Rattle.date.proofs.writing.put_year.Goals as goal
-use Rattle.date.proofs.writing.put_year.Goals.{At-loop-at}
+use Rattle.date.proofs.writing.put_year.Goals.{After-saturating_sub-zeros, After-copy_from_slice}
 
 -- the zeros and the digits fit
-room : (c : At-loop-at) → 4 - c.decimal_len-digits.result + c.decimal_len-digits.result ≤ length c.loop-at.out
+room : (c : After-saturating_sub-zeros) → (c.saturating_sub-zeros.result ≤ 4) × (c.saturating_sub-zeros.result + length (decimal c.args.year) ≤ length c.args.out.now)
 room c =
-    omega (arith, c.decimal_len-digits.ensures, length_year c.args.year, c.requires, c.loop-at.invariant.1.0)
+    let digits = rw c.from.ensures at c.decimal_len.ensures in
+    (omega (arith, c.saturating_sub-zeros.ensures), omega (arith, digits, c.saturating_sub-zeros.ensures, length_year c.args.year))
 
-pub loop-at-init : goal.loop-at-init
+pub slice_bounds-copy_from_slice-end : goal.slice_bounds-copy_from_slice-end
+slice_bounds-copy_from_slice-end c = omega (arith, room (goal.at.slice_bounds-copy_from_slice-end c).After-saturating_sub-zeros)
+
+pub slice_bounds-copy_from_slice-end-2 : goal.slice_bounds-copy_from_slice-end-2
+slice_bounds-copy_from_slice-end-2 c = let h = room (goal.at.slice_bounds-copy_from_slice-end-2 c).After-saturating_sub-zeros in sym (length-take-le _ _ (omega arith))
+
+pub copy_from_slice-requires : goal.copy_from_slice-requires
+copy_from_slice-requires c =
+    let h = room (goal.at.copy_from_slice-requires c).After-saturating_sub-zeros in
+    length-take-le _ _ (omega arith) ∙ sym (length-take-le _ _ h.0)
+
+-- the zeros are written
+zeros : (c : After-copy_from_slice) → c.copy_from_slice.new.self ++ drop c.saturating_sub-zeros.result c.args.out.now ≡ over (replicate c.saturating_sub-zeros.result 48) c.args.out.now
 unfolding over
-loop-at-init c = (omega arith, (refl, refl))
-
-pub overflow_add-at : goal.overflow_add-at
-overflow_add-at c = omega (arith, room c)
-
-pub bounds-out-at : goal.bounds-out-at
-bounds-out-at c = omega (arith, room (goal.at.bounds-out-at c).At-loop-at)
-
-pub overflow_add-at-in-loop-at : goal.overflow_add-at-in-loop-at
-overflow_add-at-in-loop-at c = omega arith
-
-pub loop-at-smaller : goal.loop-at-smaller
-loop-at-smaller c = omega arith
-
-pub loop-at-preserved : goal.loop-at-preserved
-loop-at-preserved c =
-    let l = c.loop-at in
-    let more = zeros_more c.args.out.now l.at (omega (arith, room (goal.at.loop-at-preserved c).At-loop-at)) in
-    (omega arith, (simp length-set l.invariant.1.0, rw l.invariant.1.1 more))
-
-pub slice_bounds-put_decimal-count : goal.slice_bounds-put_decimal-count
-slice_bounds-put_decimal-count c = omega (arith, room (goal.at.slice_bounds-put_decimal-count c).At-loop-at)
-
-pub slice_bounds-put_decimal-start : goal.slice_bounds-put_decimal-start
-slice_bounds-put_decimal-start c = omega (arith, room (goal.at.slice_bounds-put_decimal-start c).At-loop-at)
+zeros c =
+    let h = room (goal.at.After-copy_from_slice c).After-saturating_sub-zeros in
+    rw (c.copy_from_slice.ensures.after, zeros_are c.saturating_sub-zeros.result h.0, length-replicate)
 
 pub returns : goal.returns
 returns c =
-    let loop = (goal.at.returns c).At-loop-at in
-    let y = loop.args.year in
-    let out₀ = loop.args.out.now in
-    let digits = loop.decimal_len-digits.ensures in
-    let at = loop.loop-at.at in
-    let out = loop.loop-at.out in
-    let put = c.put_decimal in
+    let y = c.args.year in
+    let at = c.saturating_sub-zeros.result in
+    let room₀ = c.args.out.now in
+    let out = c.copy_from_slice.new.self ++ drop at room₀ in
+    let h = room (goal.at.returns c).After-saturating_sub-zeros in
+    let is = zeros (goal.at.returns c).After-copy_from_slice in
+    let digits = rw c.from.ensures at c.decimal_len.ensures in
+    let long : length out ≡ length room₀ = over_long (replicate at 48) room₀ out (rw length-replicate (omega arith)) is in
     let lent = mid_of at (length out - at) out in
-    let fits : length (decimal y) ≤ length lent = rw tail_is (omega (arith, length-drop at out, digits, room loop)) in
-    over_then (replicate at 48) (decimal y) out₀ out put.new.out at (sym (length-replicate at 48)) loop.loop-at.invariant.1.1
-    (put.ensures.left ∙ over_left (decimal y) lent fits)
-    ∙ ap (λ (text : List ℕ). over text out₀) (year_is y at (omega (arith, digits)))
+    let fits : length (decimal y) ≤ length lent = rw tail_is (omega (arith, length-drop at out)) in
+    let put = rw c.from-2.ensures at c.put_decimal.ensures.left in
+    over_then (replicate at 48) (decimal y) room₀ out c.put_decimal.new.out at (sym (length-replicate at 48)) is (put ∙ over_left (decimal y) lent fits)
+    ∙ ap (λ (text : List ℕ). over text room₀) (year_is y at (omega (arith, digits, c.saturating_sub-zeros.ensures)))
