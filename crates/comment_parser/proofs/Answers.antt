@@ -6,6 +6,7 @@ use mathlib.Core.Path.{◌≡◌, refl, ◌∙◌}
 use mathlib.Core.Bool.{Bool, true, false, cond, ◌||◌}
 use mathlib.Core.Option.{Option, none, some}
 use lib.Dec.{ltb}
+use Rattle.std.specs.Prelude.{None, Result, Ok, Err}
 use borrow.Author.Tests.{ltb-false}
 use Rattle.basics.proofs.Laws.{differ}
 use Rattle.records.specs.Answer.{Answer, longest, too_long, bad_span, span_refusal}
@@ -13,26 +14,20 @@ use Rattle.records.proofs.Answers.{coincide, read_back, refused_back, span_good}
 use Rattle.comment_parser.specs.Next.{Outcome, step_answer}
 use Rattle.comment_parser.specs.Own.{own_refusal}
 use Rattle.comment_parser.specs.declared.ParserState.{ParserState}
-use Rattle.comment_parser.specs.declared.CommentItem.{CommentItem}
 use Rattle.comment_parser.specs.declared.Next.{Next}
-use Rattle.comment_parser.specs.declared.Next.TheVariants.{Event, End, Refused}
+use Rattle.records.specs.declared.Refusal.{Refusal}
 
 -- an outcome read back from its answer
-given : Option CommentItem → ParserState → Next
-given (some i) t = Event t i
-given none t = End t
+step_back : Outcome → Result Next Refusal
+step_back s = read_back (λ values. Ok (record { state = s.state; item = s.event })) Err s.answer
 
-step_back : Outcome → Next
-step_back s = read_back (λ values. given s.event s.state) (Refused s.state) s.answer
+step_back_lem : (st : ParserState) (r : Result Next Refusal) → step_back (step_answer st r) ≡ r
+unfolding step_back
+step_back_lem st (Ok n) = refl
+step_back_lem st (Err r) = refused_back (λ values. Ok (record { state = st; item = None })) Err r
 
-step_back_lem : (n : Next) → step_back (step_answer n) ≡ n
-unfolding step_back given
-step_back_lem (Event t i) = refl
-step_back_lem (End t) = refl
-step_back_lem (Refused t r) = refused_back (λ values. given none t) (Refused t) r
-
-pub next_one : (s : Outcome) (x y : Next) → step_answer x ≡ s → step_answer y ≡ s → x ≡ y
-next_one = coincide step_answer step_back step_back_lem
+pub next_one : (st : ParserState) (s : Outcome) (x y : Result Next Refusal) → step_answer st x ≡ s → step_answer st y ≡ s → x ≡ y
+next_one st = coincide (step_answer st) step_back (step_back_lem st)
 
 -- none of the tests held
 none_held : (x y : Answer) (a b c d : Bool) (r : Option Answer) → cond a (some x) (cond (b || c || d) (some y) r) ≡ none → (a ≡ false) × (b ≡ false) × (c ≡ false)

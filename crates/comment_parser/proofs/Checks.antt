@@ -5,7 +5,7 @@ use mathlib.Core.Bool.{Bool, true, false, ◌&&◌}
 use mathlib.Core.Path.{◌≡◌, refl}
 use mathlib.Core.List.{List}
 use borrow.Author.Tests.{ne_eqb}
-use Rattle.basics.specs.declared.Place.TheVariants.{Nowhere}
+use Rattle.std.specs.Prelude.{None}
 use Rattle.byte_rules.specs.Reading.{Reading}
 use Rattle.look.specs.Look.{byte_at, blank_at, closer_at, italic_opener_at}
 use Rattle.scans.specs.Marks.{space}
@@ -15,7 +15,7 @@ use Rattle.comment_parser.specs.declared.Act.TheVariants.{One}
 use Rattle.comment_parser.specs.declared.ParserState.{ParserState}
 
 -- an italic that fails is plain text: it is not tried as a subscript
-pub failed_italic : (rd : Reading) (s : List ℕ) (st : ParserState) (p : ℕ) → opens_italic s st p ≡ true → italic_end rd s (p + 1) ≡ Nowhere → open_under rd s st p ≡ One
+pub failed_italic : (rd : Reading) (s : List ℕ) (st : ParserState) (p : ℕ) → opens_italic s st p ≡ true → italic_end rd s (p + 1) ≡ None → open_under rd s st p ≡ One
 unfolding open_under
 failed_italic rd s st p o n = rw (open_under, o, n)
 

@@ -3,7 +3,7 @@
 use Prim.Native.Nat.{ℕ, ◌≤◌, ◌<◌}
 use mathlib.Core.Bool.{Bool, true, false}
 use mathlib.Core.List.{List}
-use mathlib.Core.Option.{none}
+use Rattle.std.specs.Prelude.{Some, None}
 use mathlib.Core.Path.{◌≡◌, refl, sym, ◌∙◌}
 use native.Mathlib.Omega.{arith}
 use lib.ListN.{length, take}
@@ -18,11 +18,10 @@ use Rattle.scans.proofs.Laws.{by_less, scan_end}
 use Rattle.scans.proofs.EndLaws.{blanks_passed, blanks_to_end}
 use Rattle.comment_parser.specs.State.{Accepted, moved}
 use Rattle.comment_parser.specs.Pass.{at_end, pass_step, run_start}
-use Rattle.comment_parser.specs.Next.{Outcome, step_answer, next_of}
+use Rattle.comment_parser.specs.Next.{Outcome, given_as, next_of}
 use Rattle.comment_parser.specs.End.{EndOrNoBlank, the_end, no_blank, NoTokenIsEmpty, NothingLeft, nothing, blanks_in_math, Over, EndAnswered, EndExactlyWhenOver}
 use Rattle.comment_parser.specs.declared.Next.{Next}
 use Rattle.comment_parser.specs.declared.ParserState.{ParserState}
-use Rattle.comment_parser.specs.declared.Waiting.TheVariants.{Item, Nothing}
 use Rattle.comment_parser.proofs.Laws.{ran_out, run_start_le, run_start_clean}
 use Rattle.comment_parser.proofs.Progress.{act_full}
 use Rattle.comment_parser.proofs.Turns.{Turn, waited, ran, ended, over, turn, passing, begun_at_end, run_read}
@@ -76,7 +75,7 @@ module _ (rd : Reading) (buf : List ℕ) (st : ParserState) (a : Accepted buf st
   run_starts = start_of st.math refl
 
   -- no event: nothing waited, the run was empty, and nothing waits behind it
-  is_over : {x : Next} → Turn rd text st x → (step_answer x).event ≡ none → Over buf st
+  is_over : {x : Next} → Turn rd text st x → (given_as x).event ≡ None → Over buf st
   is_over (waited w) e = absurd (differ cc)
   is_over (ran n l) e = absurd (differ cc)
   is_over (ended n l w) e = absurd (differ cc)
@@ -84,12 +83,12 @@ module _ (rd : Reading) (buf : List ℕ) (st : ParserState) (a : Accepted buf st
       record { no_event_waits = n; nothing_left = starts_at_end (begun_at_end (passing rd buf st a).after w l ∙ long) }
 
   abbrev end_outcome : Outcome
-  end_outcome = record { answer = bare 0; event = none; state = moved st st.end Nothing }
+  end_outcome = record { answer = bare 0; event = None; state = moved st st.end None }
 
-  ends_there : {x : Next} → st.waiting ≡ Nothing → run_read rd text st ≡ at_end text st → run_start text st ≡ length text → Turn rd text st x → step_answer x ≡ end_outcome
+  ends_there : {x : Next} → st.waiting ≡ None → run_read rd text st ≡ at_end text st → run_start text st ≡ length text → Turn rd text st x → given_as x ≡ end_outcome
   ends_there i r z (waited w) = absurd (differ cc)
   ends_there i r z (ran n l) = let k : run_start text st < length text = rw r at l in absurd (omega arith)
-  ends_there i r z (ended {i = c} n l w) = let k : Nothing ≡ Item c = rw r at w in absurd (differ cc)
+  ends_there i r z (ended {i = c} n l w) = let k : None ≡ Some c = rw r at w in absurd (differ cc)
   ends_there i r z (over n l w) = rw (r, long)
 
   ends : Over buf st → next_of rd buf st ≡ end_outcome

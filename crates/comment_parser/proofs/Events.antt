@@ -6,6 +6,7 @@ use mathlib.Core.Path.{◌≡◌, refl, sym, ap, ◌∙◌}
 use mathlib.Core.List.Memᴰ
 use mathlib.Core.List.{List, [], ◌∷◌}
 use mathlib.Core.Option.{Option, none, some}
+use Rattle.std.specs.Prelude.{Option as Maybe, Some, None}
 use native.Mathlib.Omega.{arith}
 use lib.ListN.{length}
 use Rattle.basics.specs.Member.{In}
@@ -18,30 +19,29 @@ use Rattle.byte_rules.specs.Reading.{Reading, named}
 use Rattle.byte_rules.specs.declared.reading.Reading.{Reading as Name}
 use Rattle.byte_rules.specs.declared.reading.Reading.TheVariants.{Rust, Strict}
 use Rattle.comment_parser.specs.State.{Accepted, fresh}
-use Rattle.comment_parser.specs.Next.{step_answer, answered, next_of}
+use Rattle.comment_parser.specs.Next.{given_as, some_event, no_event, answered, next_of}
 use Rattle.comment_parser.specs.Events.{left, paired, seen, events_from, events_of}
 use Rattle.comment_parser.specs.declared.ParserState.{ParserState}
 use Rattle.comment_parser.specs.declared.CommentItem.{CommentItem}
 use Rattle.comment_parser.specs.declared.Next.{Next}
-use Rattle.comment_parser.specs.declared.Next.TheVariants.{Event, End, Refused}
 use Rattle.comment_parser.proofs.Turns.{GoesOn, answered_on}
 
 module _ (rd : Reading) (buf : List ℕ) (st : ParserState) where
   -- an accepted state is answered, and not refused
-  pub next_is : Accepted buf st → next_of rd buf st ≡ step_answer (answered rd buf st)
+  pub next_is : Accepted buf st → next_of rd buf st ≡ given_as (answered rd buf st)
   unfolding next_of
   next_is a = rw (next_of, ← state_good (length buf) st.pos st.end a.short a.inside a.fits)
 
   -- what the answer to an accepted state is
-  pub answers : {x : Next} → Accepted buf st → answered rd buf st ≡ x → next_of rd buf st ≡ step_answer x
-  answers a e = next_is a ∙ ap step_answer e
+  pub answers : {x : Next} → Accepted buf st → answered rd buf st ≡ x → next_of rd buf st ≡ given_as x
+  answers a e = next_is a ∙ ap given_as e
 
   refused_none : (r : Option Answer) → state_refusal (length buf) st.pos st.end ≡ r → (p : CommentItem × ParserState)
       → seen rd buf st ≡ some p → state_refusal (length buf) st.pos st.end ≡ none
   unfolding seen next_of
   refused_none none e p h = e
   refused_none (some a) e p h =
-      let f : paired none st ≡ some p = rw (next_of, e) at h in
+      let f : paired None st ≡ some p = rw (next_of, e) at h in
       absurd (differ cc)
 
   -- a state that gives an event is accepted
@@ -50,25 +50,24 @@ module _ (rd : Reading) (buf : List ℕ) (st : ParserState) where
       let a = state_accepted (length buf) st.pos st.end (refused_none (state_refusal (length buf) st.pos st.end) refl p h) in
       record { short = a.0; inside = a.1; fits = a.2 }
 
-  seen_is : Accepted buf st → seen rd buf st ≡ paired (step_answer (answered rd buf st)).event (step_answer (answered rd buf st)).state
+  pub seen_is : Accepted buf st → seen rd buf st ≡ paired (given_as (answered rd buf st)).event (given_as (answered rd buf st)).state
   unfolding seen
   seen_is a = rw (next_is a)
 
   -- the answer to an accepted state that gives an event
-  pub seen_event : (i : CommentItem) (t : ParserState) → Accepted buf st → answered rd buf st ≡ Event t i → seen rd buf st ≡ some (i, t)
+  pub seen_event : (i : CommentItem) (t : ParserState) → Accepted buf st → answered rd buf st ≡ some_event t i → seen rd buf st ≡ some (i, t)
   seen_event i t a e = seen_is a ∙ rw e
 
   -- and of one that gives none
-  pub seen_end : (t : ParserState) → Accepted buf st → answered rd buf st ≡ End t → seen rd buf st ≡ none
+  pub seen_end : (t : ParserState) → Accepted buf st → answered rd buf st ≡ no_event t → seen rd buf st ≡ none
   seen_end t a e = seen_is a ∙ rw e
 
-  from_next : (n : Next) → answered rd buf st ≡ n → (p : CommentItem × ParserState) → paired (step_answer n).event (step_answer n).state ≡ some p → answered rd buf st ≡ Event p.1 p.0
-  from_next (Event t i) e p h = e ∙ (let x : (i, t) ≡ p = cc in rw (← x))
-  from_next (End t) e p h = absurd (differ cc)
-  from_next (Refused t r) e p h = absurd (differ cc)
+  from_next : (n : Next) (o : Maybe CommentItem) → n.item ≡ o → (p : CommentItem × ParserState) → paired o n.state ≡ some p → n ≡ some_event p.1 p.0
+  from_next n (Some i) e p h = let x : (i, n.state) ≡ p = cc in rw (← x, ← e)
+  from_next n None e p h = absurd (differ cc)
 
-  pub seen_answered : (p : CommentItem × ParserState) → seen rd buf st ≡ some p → answered rd buf st ≡ Event p.1 p.0
-  seen_answered p h = from_next (answered rd buf st) refl p (sym (seen_is (seen_accepted p h)) ∙ h)
+  pub seen_answered : (p : CommentItem × ParserState) → seen rd buf st ≡ some p → answered rd buf st ≡ some_event p.1 p.0
+  seen_answered p h = from_next (answered rd buf st) (answered rd buf st).item refl p (sym (seen_is (seen_accepted p h)) ∙ h)
 
   -- an event keeps the reading and the end, moves on, and leaves less to come
   pub seen_on : (p : CommentItem × ParserState) → seen rd buf st ≡ some p → GoesOn st p.1

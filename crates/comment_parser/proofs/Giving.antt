@@ -4,6 +4,7 @@ use Prim.Native.Nat.{ℕ, ◌+◌, ◌*◌, ◌≤◌}
 use mathlib.Core.Path.{◌≡◌, ap}
 use mathlib.Core.List.{List, [], ◌++◌}
 use mathlib.Core.Option.{none, some}
+use Rattle.std.specs.Prelude.{Some, Ok}
 use native.Mathlib.Omega.{arith}
 use lib.ListN.{length}
 use Rattle.byte_rules.specs.Reading.{Reading, named}
@@ -18,8 +19,8 @@ use Rattle.comment_parser.specs.State.{Accepted, fresh}
 use Rattle.comment_parser.specs.Events.{left, seen}
 use Rattle.comment_parser.specs.Notes.{NextBy}
 use Rattle.comment_parser.specs.declared.CommentItem.{CommentItem}
-use Rattle.comment_parser.specs.declared.Next.TheVariants.{Event}
-use Rattle.comment_parser.specs.declared.NextNoted.{NextNoted}
+use Rattle.comment_parser.specs.declared.Next.{Next}
+use Rattle.scans.specs.declared.Noted.{Noted}
 use Rattle.comment_parser.specs.declared.ParserState.{ParserState}
 use Rattle.comment_parser.proofs.Along.{Along, along_starts, along_event, along_less, along_accepted, along_on}
 
@@ -46,17 +47,17 @@ module _ {rd : Reading} {k : ℕ} {buf : List ℕ} {give : CommentItem → List 
     {all : List (List ℕ)} {out₀ out : List ℕ} {st : ParserState} {note : Note} {at n : ℕ} (g : Going rd k buf rest all out₀ out st note at n) where
   -- a turn: what an event gives was laid in the tail, and `last` is the tail since
   pub going_on :
-      {r : NextNoted} → NextBy buf st note r
-      → {i : CommentItem} {t : ParserState} → r.next ≡ Event t i
+      {r : Noted Next} → NextBy buf st note (Ok r)
+      → {i : CommentItem} → r.value.item ≡ Some i
       → {w : Wrote} → w ≡ wrote_of k (give i) (length (tail at out))
       → {last : List ℕ} → last ≡ laid k (give i) (tail at out)
-      → (at + w.words ≤ length out) × Going rd k buf rest all out₀ (back at out last) t r.note (at + w.words) (n + w.count)
-  going_on says {i} {t} e {w} wrote {last} is =
+      → (at + w.words ≤ length out) × Going rd k buf rest all out₀ (back at out last) r.value.state r.note (at + w.words) (n + w.count)
+  going_on {r} says {i} e {w} wrote {last} is =
       let less = (along_less g.along says e).less in
       let one = giving.one i in
       let count = ap (λ (x : Wrote). x.count) wrote in
-      let to_come_lem = rw (giving.on st i t (along_event g.along says e)) at g.laying in
-      let lies = laying_wrote (give i) (rest t) last to_come_lem (giving.wide i) is w wrote in
+      let to_come_lem = rw (giving.on st i r.value.state (along_event g.along says e)) at g.laying in
+      let lies = laying_wrote (give i) (rest r.value.state) last to_come_lem (giving.wide i) is w wrote in
       (lies.0, record { along = along_on g.along says e; accepted = along_accepted g.along says e; few = omega (arith, g.few); laying = lies.1 })
 
   -- the end: nothing is to come

@@ -4,6 +4,7 @@ use Prim.Native.Nat.{ℕ, ◌≤◌}
 use mathlib.Core.Path.{◌≡◌, subst}
 use mathlib.Core.List.{List}
 use mathlib.Core.Option.{some}
+use Rattle.std.specs.Prelude.{Option as Maybe, Some, None}
 use native.Mathlib.Nat.{le_refl}
 use native.Mathlib.Omega.{arith}
 use Rattle.byte_rules.specs.Reading.{Reading}
@@ -12,36 +13,31 @@ use Rattle.comment_parser.specs.Bounds.{Within}
 use Rattle.comment_parser.specs.Events.{seen}
 use Rattle.comment_parser.specs.declared.CommentItem.{CommentItem}
 use Rattle.comment_parser.specs.declared.Next.{Next}
-use Rattle.comment_parser.specs.declared.Next.TheVariants.{Event, End, Refused}
 use Rattle.comment_parser.specs.declared.ParserState.{ParserState}
-use Rattle.comment_parser.specs.declared.Waiting.{Waiting}
-use Rattle.comment_parser.specs.declared.Waiting.TheVariants.{Item, Nothing}
 use Rattle.comment_parser.proofs.Progress.{Waits}
 use Rattle.comment_parser.proofs.Turns.{Turn, waited, ran, ended, over, turn, Passing, passing, run_read}
 use Rattle.comment_parser.proofs.Events.{seen_accepted, seen_answered}
 use Rattle.comment_parser.proofs.Reached.{Reached, run_in_order}
 
 -- up to where all is given: what waits is not
-abbrev given_to : ℕ → Waiting → ℕ
-given_to pos (Item i) = (placed_of i).place
-given_to pos Nothing = pos
+abbrev given_to : ℕ → Maybe CommentItem → ℕ
+given_to pos (Some i) = (placed_of i).place
+given_to pos None = pos
 
 abbrev pub given : ParserState → ℕ
 given st = given_to st.pos st.waiting
 
 abbrev InOrder : ℕ → Next → Type 0
-InOrder low (Event t i) = Within low (given t) (placed_of i)
-InOrder low (End t) = Unit
-InOrder low (Refused t r) = Unit
+InOrder low n = elim n.item [ Some i ↦ Within low (given n.state) (placed_of i) | None ↦ Unit ]
 
-given_ge : (low high : ℕ) (w : Waiting) → low ≤ high → Waits low high w → low ≤ given_to high w
-given_ge low high (Item i) h k = k.above
-given_ge low high Nothing h k = h
+given_ge : (low high : ℕ) (w : Maybe CommentItem) → low ≤ high → Waits low high w → low ≤ given_to high w
+given_ge low high (Some i) h k = k.above
+given_ge low high None h k = h
 
-given_item : (high : ℕ) (w : Waiting) (i : CommentItem) → w ≡ Item i → given_to high w ≡ (placed_of i).place
+given_item : (high : ℕ) (w : Maybe CommentItem) (i : CommentItem) → w ≡ Some i → given_to high w ≡ (placed_of i).place
 given_item high w i e = rw e
 
-given_all : (high : ℕ) (w : Waiting) → w ≡ Nothing → given_to high w ≡ high
+given_all : (high : ℕ) (w : Maybe CommentItem) → w ≡ None → given_to high w ≡ high
 given_all high w e = rw e
 
 in_order : {rd : Reading} {s : List ℕ} {st : ParserState} {x : Next} → Passing rd s st → Reached st → Turn rd s st x → InOrder (given st) x
@@ -70,6 +66,6 @@ seen_in_order rd buf st p h r = subst (InOrder (given st)) (seen_answered rd buf
 pub given_le : (st : ParserState) → Reached st → given st ≤ st.pos
 given_le st = go st.waiting
   where
-    go : (w : Waiting) → Waits 0 st.pos w → given_to st.pos w ≤ st.pos
-    go (Item i) h = omega arith
-    go Nothing h = le_refl st.pos
+    go : (w : Maybe CommentItem) → Waits 0 st.pos w → given_to st.pos w ≤ st.pos
+    go (Some i) h = omega arith
+    go None h = le_refl st.pos

@@ -5,6 +5,7 @@ use mathlib.Core.Bool.{Bool, true, false, ◌&&◌, ◌||◌}
 use mathlib.Core.Path.{◌≡◌, refl, ap, sym, ◌∙◌}
 use mathlib.Core.List.{List}
 use lib.ListN.{length}
+use Rattle.std.specs.Prelude.{None}
 use native.Mathlib.Omega.{arith}
 use borrow.Author.Tests.{lt-ltb, le-ltb, ne_eqb}
 use Rattle.byte_rules.specs.Reading.{Reading}
@@ -21,14 +22,13 @@ use Rattle.comment_parser.specs.Rules.{after_lf, plain_rule, text_rule, first_ru
 use Rattle.comment_parser.specs.Pass.{step_of, run_to, pass_step, ended_at, pass, run_start}
 use Rattle.comment_parser.specs.Notes.{Skipped}
 use Rattle.comment_parser.specs.declared.ParserState.{ParserState}
-use Rattle.comment_parser.specs.declared.Waiting.TheVariants.{Nothing}
 use Rattle.comment_parser.specs.declared.Act.{Act}
 use Rattle.comment_parser.specs.declared.Act.TheVariants.{One, Ends}
 
 -- looking back for an LF: nothing before the run's start, and one byte further
-pub lf_none : (s : List ℕ) (from : ℕ) → after_lf s (from - from) from ≡ false
+pub lf_none : (s : List ℕ) (from i : ℕ) → i ≤ from → after_lf s (i - from) i ≡ false
 unfolding after_lf
-lf_none s from = let n : from - from ≡ 0 = omega arith in rw n
+lf_none s from i h = let n : i - from ≡ 0 = omega arith in rw n
 
 module _ (s : List ℕ) (from i : ℕ) (h : from < i) where
   lf_step : after_lf s (i - from) i ≡ (byte_at s (i - 1) lf || (blank_at s (i - 1) && after_lf s (i - 1 - from) (i - 1)))
@@ -62,7 +62,7 @@ module _ (rd : Reading) (s : List ℕ) (st : ParserState) (from p : ℕ) where
       ended q t r = rw (pass, comes) (ends_here q t (sym r))
 
 module _ (rd : Reading) (s : List ℕ) (st : ParserState) (from : ℕ) where
-  pub ran_out : scan (pass_step rd s st from) (length s) from ≡ length s → pass rd s st from ≡ run_to (length s) (moved st (length s) Nothing)
+  pub ran_out : scan (pass_step rd s st from) (length s) from ≡ length s → pass rd s st from ≡ run_to (length s) (moved st (length s) None)
   unfolding pass ended_at
   ran_out i = rw (pass, i, ended_at, le-ltb (length s) (length s) (omega arith))
 

@@ -7,6 +7,7 @@ use native.Mathlib.Nat.{le_refl}
 use borrow.Author.Tests.{lt-ltb, le-ltb, eqb-true}
 use lib.Dec.{eqb}
 use lib.ListN.{length}
+use Rattle.std.specs.Prelude.{Some}
 use Rattle.basics.proofs.Laws.{by_test}
 use Rattle.byte_rules.specs.Reading.{Reading}
 use Rattle.scans.proofs.Laws.{Leads, by_one, by_two, stops, scanned}
@@ -18,7 +19,6 @@ use Rattle.comment_parser.specs.declared.Act.TheVariants.{One, Two, Ends}
 use Rattle.comment_parser.specs.declared.CommentItem.TheVariants.{EndSubscript}
 use Rattle.comment_parser.specs.declared.ParserState.{ParserState}
 use Rattle.comment_parser.specs.declared.Run.{Run}
-use Rattle.comment_parser.specs.declared.Waiting.TheVariants.{Item}
 
 -- what a rule at p may say: Q holds where it steps to, or R of the run that it ends
 abbrev pub Good : (ℕ → Type 0) → (Run → Type 0) → ℕ → Act → Type 0
@@ -52,7 +52,7 @@ module _ (rd : Reading) (s : List ℕ) (st : ParserState) (from : ℕ) (Q : ℕ 
 module _ (st : ParserState) (p : ℕ) (P : Act → Type 0) where
   -- the run ends at q, the noted subscript end
   abbrev pub Noted : ℕ → Type 0
-  Noted q = q ≡ st.end_subscript → P (Ends q (moved st q (Item (EndSubscript q))))
+  Noted q = q ≡ st.end_subscript → P (Ends q (moved st q (Some (EndSubscript q))))
 
   step_to_lem : (q : ℕ) (a : Act) → Noted q → P a → P (step_to st q a)
   unfolding step_to

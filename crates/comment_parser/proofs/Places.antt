@@ -10,7 +10,7 @@ use native.Mathlib.Omega.{arith}
 use borrow.Author.Tests.{ltb-true}
 use lib.Dec.{ltb, eqb}
 use lib.ListN.{length, take, drop}
-use Rattle.basics.specs.declared.Place.TheVariants.{At, Nowhere}
+use Rattle.std.specs.Prelude.{Option as Maybe, Some, None}
 use Rattle.basics.proofs.Laws.{differ, by_test, by_place}
 use Rattle.byte_rules.specs.Reading.{Reading}
 use Rattle.look.specs.Look.{byte_at, blank_at, doubled_at, word_at}
@@ -24,16 +24,14 @@ use Rattle.comment_parser.specs.Item.{placed_of}
 use Rattle.comment_parser.specs.State.{fresh}
 use Rattle.comment_parser.specs.Rules.{after_lf, label_item, tick_rule, tilde_rule, math_rule, html_rule, bracket_rule, newline_rule, opens_italic, open_under, under_rule, plain_rule, text_rule, first_rule, pass_act}
 use Rattle.comment_parser.specs.Pass.{run_start, run_item, pass}
+use Rattle.comment_parser.specs.Next.{some_event}
 use Rattle.comment_parser.specs.Events.{seen, events_of}
 use Rattle.comment_parser.specs.Places.{BehindUnder, PlaceOf, at_byte, at_end_case, EveryPlace}
 use Rattle.comment_parser.specs.declared.ParserState.{ParserState}
 use Rattle.comment_parser.specs.declared.CommentItem.{CommentItem}
-use Rattle.comment_parser.specs.declared.Waiting.{Waiting}
-use Rattle.comment_parser.specs.declared.Waiting.TheVariants.{Item, Nothing}
 use Rattle.comment_parser.specs.declared.Run.{Run}
 use Rattle.comment_parser.specs.declared.Act.{Act}
 use Rattle.comment_parser.specs.declared.Next.{Next}
-use Rattle.comment_parser.specs.declared.Next.TheVariants.{Event, End, Refused}
 use Rattle.comment_parser.proofs.Passes.{Good, Noted, pass_by, act_by}
 use Rattle.comment_parser.proofs.Turns.{Turn, waited, ran, ended, over, turn, Passing, passing, run_read}
 use Rattle.comment_parser.proofs.Events.{seen_accepted, seen_answered, seen_on, every_event}
@@ -43,9 +41,9 @@ module _ (s : List ℕ) where
   abbrev NotedEnd : ℕ → Type 0
   NotedEnd e = (e ≡ 0) ⊎ BehindUnder s e
 
-  abbrev WaitsAt : Waiting → Type 0
-  WaitsAt Nothing = Unit
-  WaitsAt (Item i) = PlaceOf s (placed_of i).place
+  abbrev WaitsAt : Maybe CommentItem → Type 0
+  WaitsAt None = Unit
+  WaitsAt (Some i) = PlaceOf s (placed_of i).place
 
   -- a state on the way
   record Stands (st : ParserState) : Type 0 where
@@ -53,14 +51,14 @@ module _ (s : List ℕ) where
     waits : WaitsAt st.waiting
 
 -- a subscript ends behind its mark
-subscript_behind : (rd : Reading) (s : List ℕ) (p q : ℕ) → subscript_end rd s (p + 1) ≡ At q → p < q
+subscript_behind : (rd : Reading) (s : List ℕ) (p q : ℕ) → subscript_end rd s (p + 1) ≡ Some q → p < q
 unfolding subscript_end
 subscript_behind rd s p q = go (ltb (p + 1) j) refl
   where
     j : ℕ
     j = scan (subscript_step rd s) (length s) (p + 1)
 
-    go : (b : Bool) → ltb (p + 1) j ≡ b → elim b [ true ↦ At j | false ↦ Nowhere ] ≡ At q → p < q
+    go : (b : Bool) → ltb (p + 1) j ≡ b → elim b [ true ↦ Some j | false ↦ None ] ≡ Some q → p < q
     go true e h = let z : j ≡ q = cc in omega (arith, ltb-true (p + 1) j e)
     go false e h = absurd (differ cc)
 
@@ -156,9 +154,7 @@ pass_stands rd s st from h n =
     pass_by rd s st from (λ (q : ℕ). q ≤ length s) (λ (r : Run). Stands s r.after) (λ p k l. act_sound s st from p l n rd) (λ p k l. record { noted = n; waits = tt }) h
 
 abbrev StandsIf : List ℕ → Next → Type 0
-StandsIf s (Event t i) = PlaceOf s (placed_of i).place × Stands s t
-StandsIf s (End t) = Unit
-StandsIf s (Refused t r) = Unit
+StandsIf s n = elim n.item [ Some i ↦ PlaceOf s (placed_of i).place × Stands s n.state | None ↦ Unit ]
 
 -- a run is not empty
 run_at : (s : List ℕ) (st : ParserState) (a b : ℕ) → a < b → b ≤ length s → PlaceOf s (placed_of (run_item st a b)).place
@@ -188,5 +184,5 @@ every_place rd buf start end = every_event rd buf Way (λ (i : CommentItem). Pla
         let s = take st.end buf in
         let before : Stands s st = subst (λ (b : ℕ). Stands (take b buf) st) (sym m.0) m.1 in
         let here = subst (StandsIf s) (seen_answered rd buf st p e) (stands (passing rd buf st (seen_accepted rd buf st p e)) before (turn rd buf st)) in
-        let there = subst (λ (b : ℕ). StandsIf (take b buf) (Event p.1 p.0)) m.0 here in
+        let there = subst (λ (b : ℕ). StandsIf (take b buf) (some_event p.1 p.0)) m.0 here in
         (there.0, ((seen_on rd buf st p e).same_end ∙ m.0, there.1))

@@ -11,6 +11,7 @@ use native.Mathlib.Nat.{le_refl}
 use native.Mathlib.Omega.{arith}
 use lib.ListN.{length, take, drop}
 use lib.Dec.{leb, eqb}
+use Rattle.std.specs.Prelude.{Option as Maybe, Some, None}
 use Rattle.basics.proofs.Laws.{differ, by_test, by_place}
 use Rattle.look.specs.Look.{byte_at, blank_at, doubled_at, word_at}
 use Rattle.look.proofs.Laws.{byte_within, doubled_within, word_within}
@@ -28,16 +29,14 @@ use Rattle.comment_parser.specs.Rules.{opens_italic, open_under, under_rule, pla
 use Rattle.comment_parser.specs.Pass.{pass}
 use Rattle.comment_parser.specs.declared.ParserState.{ParserState}
 use Rattle.comment_parser.specs.declared.CommentItem.{CommentItem}
-use Rattle.comment_parser.specs.declared.Waiting.{Waiting}
-use Rattle.comment_parser.specs.declared.Waiting.TheVariants.{Item, Nothing}
 use Rattle.comment_parser.specs.declared.Run.{Run}
 use Rattle.comment_parser.specs.declared.Act.{Act}
 use Rattle.comment_parser.specs.declared.Act.TheVariants.{Ends}
 
 -- what waits lies between two places
-abbrev pub Waits : ℕ → ℕ → Waiting → Type 0
-Waits low high Nothing = Unit
-Waits low high (Item i) = Within low high (placed_of i)
+abbrev pub Waits : ℕ → ℕ → Maybe CommentItem → Type 0
+Waits low high None = Unit
+Waits low high (Some i) = Within low high (placed_of i)
 
 -- the state after a run that began at `from` and ended at q: with an event waiting it has moved on; with none the run is not empty, or has come to the end
 pub record After (s : List ℕ) (st : ParserState) (from q : ℕ) (t : ParserState) : Type 0 where
@@ -46,8 +45,8 @@ pub record After (s : List ℕ) (st : ParserState) (from q : ℕ) (t : ParserSta
   pub starts : from ≤ q
   pub past_run : q ≤ t.pos
   pub within : t.pos ≤ length s
-  pub on : (from < t.pos) ⊎ (t.waiting ≡ Nothing)
-  pub full : t.waiting ≡ Nothing → (from < q) ⊎ (q ≡ length s)
+  pub on : (from < t.pos) ⊎ (t.waiting ≡ None)
+  pub full : t.waiting ≡ None → (from < q) ⊎ (q ≡ length s)
   pub waits : Waits q t.pos t.waiting
 
 module _ (s : List ℕ) (st : ParserState) (from : ℕ) where
@@ -98,7 +97,7 @@ module _ (s : List ℕ) (st : ParserState) (from p : ℕ) (h : from ≤ p) (i : 
 
   -- the run ends at q with an event, and the next starts at x, past p
   ends_at :
-      (q x : ℕ) (t : ParserState) {c : CommentItem} → t.reading ≡ st.reading → t.end ≡ st.end → t.pos ≡ x → t.waiting ≡ Item c → from ≤ q → q ≤ p → p < x → x ≤ length s →
+      (q x : ℕ) (t : ParserState) {c : CommentItem} → t.reading ≡ st.reading → t.end ≡ st.end → t.pos ≡ x → t.waiting ≡ Some c → from ≤ q → q ≤ p → p < x → x ≤ length s →
       Waits q t.pos t.waiting → Sound (Ends q t)
   ends_at q x t r e f g a b c d w =
       record { same_reading = r; same_end = e; starts = a; past_run = omega arith; within = omega arith; on = inl (omega arith); full = λ n. absurd (differ cc); waits = w }
@@ -198,7 +197,7 @@ module _ (s : List ℕ) (st : ParserState) (from p : ℕ) (h : from ≤ p) (i : 
     act_sound n = act_by st p Sound rd s from (λ k. noted_sound (p + 1) (omega arith) k.1) (λ k. noted_sound (p + 2) (omega arith) k.1) (first_sound n)
 
     -- a rule that leaves nothing waiting ends a run that is not empty
-    pub act_full : Clean s st from → (q : ℕ) (t : ParserState) → pass_act rd s st from p ≡ Ends q t → t.waiting ≡ Nothing → from < q
+    pub act_full : Clean s st from → (q : ℕ) (t : ParserState) → pass_act rd s st from p ≡ Ends q t → t.waiting ≡ None → from < q
     act_full n q t e w = let a : After s st from q t = rw e at (act_sound n) in ⊎_elim (λ (l : from < q). l) (λ (z : q ≡ length s). omega arith) (a.full w)
 
 -- a pass from within the text, in math from where no blank stands

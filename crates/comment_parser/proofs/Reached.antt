@@ -4,6 +4,7 @@ use Prim.Native.Nat.{ℕ, ◌≤◌}
 use mathlib.Core.Path.{◌≡◌, subst}
 use mathlib.Core.List.{List}
 use mathlib.Core.Option.{some}
+use Rattle.std.specs.Prelude.{Option as Maybe, Some, None}
 use native.Mathlib.Omega.{arith}
 use lib.ListN.{length}
 use Rattle.basics.specs.Member.{In}
@@ -17,10 +18,7 @@ use Rattle.comment_parser.specs.Pass.{run_start, run_item}
 use Rattle.comment_parser.specs.Events.{seen, events_of}
 use Rattle.comment_parser.specs.declared.CommentItem.{CommentItem}
 use Rattle.comment_parser.specs.declared.Next.{Next}
-use Rattle.comment_parser.specs.declared.Next.TheVariants.{Event, End, Refused}
 use Rattle.comment_parser.specs.declared.ParserState.{ParserState}
-use Rattle.comment_parser.specs.declared.Waiting.{Waiting}
-use Rattle.comment_parser.specs.declared.Waiting.TheVariants.{Item, Nothing}
 use Rattle.comment_parser.proofs.Progress.{Waits}
 use Rattle.comment_parser.proofs.Turns.{Turn, waited, ran, ended, over, turn, Passing, passing, run_read}
 use Rattle.comment_parser.proofs.Events.{seen_accepted, seen_answered, stays_accepted, every_event}
@@ -35,13 +33,11 @@ pub record Lies (i : CommentItem) (t : ParserState) : Type 0 where
   pub reached : Reached t
 
 abbrev LiesIf : Next → Type 0
-LiesIf (Event t i) = Lies i t
-LiesIf (End t) = Unit
-LiesIf (Refused t r) = Unit
+LiesIf n = elim n.item [ Some i ↦ Lies i n.state | None ↦ Unit ]
 
-pub from_zero : (low high : ℕ) (w : Waiting) → Waits low high w → Waits 0 high w
-from_zero low high (Item i) h = omega arith
-from_zero low high Nothing h = tt
+pub from_zero : (low high : ℕ) (w : Maybe CommentItem) → Waits low high w → Waits 0 high w
+from_zero low high (Some i) h = omega arith
+from_zero low high None h = tt
 
 -- a run lies where its bytes do
 pub run_in_order : (st : ParserState) (low a b high : ℕ) → low ≤ a → a ≤ b → b ≤ high → Within low high (placed_of (run_item st a b))

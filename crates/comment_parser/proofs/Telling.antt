@@ -6,25 +6,24 @@ use mathlib.Core.List.{List, [], ◌∷◌}
 use native.Mathlib.Omega.{arith}
 use borrow.Author.Tests.{ltb-true, ltb-false}
 use lib.Dec.{ltb}
+use Rattle.std.specs.Prelude.{Some, None}
 use lib.ListN.{length, take}
 use Rattle.basics.proofs.Laws.{by_test}
 use Rattle.records.specs.Answer.{longest}
 use Rattle.byte_rules.specs.Reading.{Reading}
 use Rattle.comment_parser.specs.State.{Accepted, fresh, moved}
 use Rattle.comment_parser.specs.Pass.{run_start, run_item}
-use Rattle.comment_parser.specs.Next.{give, read_on, answered}
+use Rattle.comment_parser.specs.Next.{some_event, no_event, give, read_on, answered}
 use Rattle.comment_parser.specs.Events.{left, events_from, events_of}
 use Rattle.comment_parser.specs.declared.CommentItem.{CommentItem}
 use Rattle.comment_parser.specs.declared.Next.{Next}
-use Rattle.comment_parser.specs.declared.Next.TheVariants.{Event, End}
 use Rattle.comment_parser.specs.declared.ParserState.{ParserState}
-use Rattle.comment_parser.specs.declared.Waiting.TheVariants.{Item, Nothing}
 use Rattle.comment_parser.proofs.Turns.{run_read, give_item, give_end, gives, reads_on}
 use Rattle.comment_parser.proofs.Events.{seen_event, seen_end, seen_on, stays_accepted, events_on, events_end}
 
 -- a state that reads on up to b
 pub record Ready (buf : List ℕ) (b : ℕ) (st : ParserState) : Type 0 where
-  pub idle : st.waiting ≡ Nothing
+  pub idle : st.waiting ≡ None
   pub accepted : Accepted buf st
   pub same_end : st.end ≡ b
 
@@ -38,18 +37,18 @@ module _ {M : Type 0} (Stands : M → ParserState → Type 0) (Told : M → List
 
   -- what is to be shown of a pass of the state st, which stands at m: its run from `from` ends at q and leaves the state t
   pub data Passed (m : M) (st : ParserState) (from q : ℕ) (t : ParserState) : Type 0 where
-    none_waits : t.waiting ≡ Nothing → (q ≤ from → Told m []) → (from < q → Follows m t (λ es. run_item st from q ∷ es)) → Passed m st from q t
+    none_waits : t.waiting ≡ None → (q ≤ from → Told m []) → (from < q → Follows m t (λ es. run_item st from q ∷ es)) → Passed m st from q t
     one_waits :
-        {c : CommentItem} → t.waiting ≡ Item c → (q ≤ from → Follows m (moved t t.pos Nothing) (λ es. c ∷ es)) →
-        (from < q → Follows m (moved t t.pos Nothing) (λ es. run_item st from q ∷ c ∷ es)) → Passed m st from q t
+        {c : CommentItem} → t.waiting ≡ Some c → (q ≤ from → Follows m (moved t t.pos None) (λ es. c ∷ es)) →
+        (from < q → Follows m (moved t t.pos None) (λ es. run_item st from q ∷ c ∷ es)) → Passed m st from q t
 
   -- what a turn answers: the end; an event; or an event behind which another waits
   data Turned (m : M) : Next → Type 0 where
-    over : {t : ParserState} → Told m [] → Turned m (End t)
-    one : {t : ParserState} {c : CommentItem} → t.waiting ≡ Nothing → Follows m t (λ es. c ∷ es) → Turned m (Event t c)
-    two : {t : ParserState} {d c : CommentItem} → t.waiting ≡ Item c → Follows m (moved t t.pos Nothing) (λ es. d ∷ c ∷ es) → Turned m (Event t d)
+    over : {t : ParserState} → Told m [] → Turned m (no_event t)
+    one : {t : ParserState} {c : CommentItem} → t.waiting ≡ None → Follows m t (λ es. c ∷ es) → Turned m (some_event t c)
+    two : {t : ParserState} {d c : CommentItem} → t.waiting ≡ Some c → Follows m (moved t t.pos None) (λ es. d ∷ c ∷ es) → Turned m (some_event t d)
 
-  full : {m : M} {st : ParserState} {from q : ℕ} {t : ParserState} → from < q → Passed m st from q t → Turned m (Event t (run_item st from q))
+  full : {m : M} {st : ParserState} {from q : ℕ} {t : ParserState} → from < q → Passed m st from q t → Turned m (some_event t (run_item st from q))
   full l (none_waits w e f) = one w (f l)
   full l (one_waits w e f) = two w (f l)
 
@@ -81,7 +80,7 @@ module _ {M : Type 0} (Stands : M → ParserState → Type 0) (Told : M → List
             let a = rest f.to t (record { idle = w; accepted = stays_accepted rd buf st (c, t) see; same_end = on.same_end ∙ k.same_end }) f.stands (omega (arith, on.less)) in
             rw (events_on rd buf st c t see) (f.tells _ a)
         by_turn e (two {t = t} {d = d} {c = c} w f) =
-            let u = moved t t.pos Nothing in
+            let u = moved t t.pos None in
             let see = seen_event rd buf st d t k.accepted e in
             let on = seen_on rd buf st (d, t) see in
             let acc = stays_accepted rd buf st (d, t) see in

@@ -9,3 +9,4 @@ pub mod Places
 pub mod Notes
 pub mod Bounds
 pub mod Own
+pub mod Items

@@ -1,5 +1,5 @@
 -- A pass (document 01, "Reading rules"): the run from the current position to what ends it.
-use Rattle.std.specs.Prelude.{ℕ, true, false, List, length, ltb}
+use Rattle.std.specs.Prelude.{ℕ, true, false, None, List, length, ltb}
 use Rattle.byte_rules.specs.Reading.{Reading}
 use Rattle.scans.specs.Scan.{scan}
 use Rattle.scans.specs.Ends.{blanks_end}
@@ -10,7 +10,6 @@ use Rattle.comment_parser.specs.State.{moved}
 use Rattle.comment_parser.specs.Rules.{pass_act}
 use Rattle.comment_parser.specs.declared.CommentItem.{CommentItem}
 use Rattle.comment_parser.specs.declared.CommentItem.TheVariants.{Text, MathToken}
-use Rattle.comment_parser.specs.declared.Waiting.TheVariants.{Nothing}
 use Rattle.comment_parser.specs.declared.ParserState.{ParserState}
 use Rattle.comment_parser.specs.declared.Act.{Act}
 use Rattle.comment_parser.specs.declared.Act.TheVariants.{One, Two, Ends}
@@ -30,7 +29,7 @@ run_start s st = elim st.math [ true ↦ blanks_end s st.pos | false ↦ st.pos 
 
 -- a run that goes to the end of the text
 abbrev pub at_end : List ℕ → ParserState → Run
-at_end s st = run_to (length s) (moved st (length s) Nothing)
+at_end s st = run_to (length s) (moved st (length s) None)
 
 module _ (rd : Reading) (s : List ℕ) (st : ParserState) where
   unfoldable pub pass_step : ℕ → ℕ → Step

@@ -1,17 +1,15 @@
 -- The reading rules of document 01, over the text `s`, the buffer up to the span's end. Each says what the byte at the place p does to the run
 -- that began at `from`.
-use Rattle.std.specs.Prelude.{ℕ, zero, suc, ◌+◌, ◌-◌, Bool, true, false, ◌&&◌, ◌||◌, List, leb, eqb, length, take, drop}
+use Rattle.std.specs.Prelude.{ℕ, zero, suc, ◌+◌, ◌-◌, Bool, true, false, ◌&&◌, ◌||◌, Some, None, List, leb, eqb, length, take, drop}
 use Rattle.byte_rules.specs.Reading.{Reading}
 use Rattle.look.specs.Look.{byte_at, blank_at, closer_at, italic_opener_at, doubled_at, word_at}
 use Rattle.scans.specs.Marks.{tick, tilde, lparen, quote, lbracket, under, less, lf, space, open_html, close_html}
 use Rattle.scans.specs.Ends.{blanks_end, tag_end, label_end, subscript_end, italic_end, is_url}
-use Rattle.basics.specs.declared.Place.TheVariants.{At, Nowhere}
 use Rattle.comment_parser.specs.Item.{span}
 use Rattle.comment_parser.specs.State.{moved, in_math, in_html, italic_to, subscript_to}
 use Rattle.comment_parser.specs.declared.CommentItem.{CommentItem}
 use Rattle.comment_parser.specs.declared.CommentItem.TheVariants.{LineBreak, StartMathMode, EndMathMode, Label, Url, StartHtml}
 use Rattle.comment_parser.specs.declared.CommentItem.TheVariants.{EndHtml, StartSubscript, EndSubscript, StartItalic, EndItalic, BibTag}
-use Rattle.comment_parser.specs.declared.Waiting.TheVariants.{Item, Nothing}
 use Rattle.comment_parser.specs.declared.ParserState.{ParserState}
 use Rattle.comment_parser.specs.declared.Act.{Act}
 use Rattle.comment_parser.specs.declared.Act.TheVariants.{One, Two, Ends}
@@ -51,8 +49,8 @@ module _ (s : List ℕ) (st : ParserState) where
         elim (doubled_at s p tick) [
           | true ↦ Two
           | false ↦ elim st.math [
-            | true ↦ Ends p (moved (in_math st false) (after_close s (p + 1)) (Item (EndMathMode p)))
-            | false ↦ Ends (before_open s from p) (moved (in_math st true) (p + 1) (Item (StartMathMode p)))
+            | true ↦ Ends p (moved (in_math st false) (after_close s (p + 1)) (Some (EndMathMode p)))
+            | false ↦ Ends (before_open s from p) (moved (in_math st true) (p + 1) (Some (StartMathMode p)))
           ]
         ]
 
@@ -64,24 +62,24 @@ module _ (s : List ℕ) (st : ParserState) where
           | false ↦
               let a = blanks_end s (p + 1) in
               let b = label_end s a in
-              Ends (before_open s from p) (moved st (after_close s b) (Item (label_item s p a b)))
+              Ends (before_open s from p) (moved st (after_close s b) (Some (label_item s p a b)))
         ]
 
     -- LF: if an earlier LF of this run is followed by blanks only, this LF starts the next run
     unfoldable pub newline_rule : Act
-    newline_rule = elim (after_lf s (p - from) p) [ true ↦ Ends p (moved st p (Item (LineBreak p))) | false ↦ One ]
+    newline_rule = elim (after_lf s (p - from) p) [ true ↦ Ends p (moved st p (Some (LineBreak p))) | false ↦ One ]
 
   module _ (p : ℕ) where
     -- in math: a nonblank steps one; a blank ends the token
     unfoldable pub math_rule : Act
-    math_rule = elim (blank_at s p) [ true ↦ Ends p (moved st p Nothing) | false ↦ One ]
+    math_rule = elim (blank_at s p) [ true ↦ Ends p (moved st p None) | false ↦ One ]
 
     -- `<HTML>` outside HTML, `</HTML>` inside it, ends the run
     unfoldable pub html_rule : Act
     html_rule =
         elim st.html [
-          | true ↦ elim (word_at s p close_html) [ true ↦ Ends p (moved (in_html st false) (p + length close_html) (Item (EndHtml p))) | false ↦ One ]
-          | false ↦ elim (word_at s p open_html) [ true ↦ Ends p (moved (in_html st true) (p + length open_html) (Item (StartHtml p))) | false ↦ One ]
+          | true ↦ elim (word_at s p close_html) [ true ↦ Ends p (moved (in_html st false) (p + length close_html) (Some (EndHtml p))) | false ↦ One ]
+          | false ↦ elim (word_at s p open_html) [ true ↦ Ends p (moved (in_html st true) (p + length open_html) (Some (StartHtml p))) | false ↦ One ]
         ]
 
     -- `[`: doubled, step two; a tag ends the run
@@ -89,7 +87,7 @@ module _ (s : List ℕ) (st : ParserState) where
     bracket_rule =
         elim (doubled_at s p lbracket) [
           | true ↦ Two
-          | false ↦ elim (tag_end s (p + 1)) [ At q ↦ Ends p (moved st (q + 1) (Item (BibTag (span (p + 1) q)))) | Nowhere ↦ One ]
+          | false ↦ elim (tag_end s (p + 1)) [ Some q ↦ Ends p (moved st (q + 1) (Some (BibTag (span (p + 1) q)))) | None ↦ One ]
         ]
 
     -- `_` may open an italic at the noted subscript end, at the buffer's start, or behind a blank or an opener; else it may open a subscript
@@ -98,7 +96,7 @@ module _ (s : List ℕ) (st : ParserState) where
 
 -- a step to q: at the noted subscript end it ends the run there
 unfoldable pub step_to : ParserState → ℕ → Act → Act
-step_to st q a = elim (eqb q st.end_subscript) [ true ↦ Ends q (moved st q (Item (EndSubscript q))) | false ↦ a ]
+step_to st q a = elim (eqb q st.end_subscript) [ true ↦ Ends q (moved st q (Some (EndSubscript q))) | false ↦ a ]
 
 -- the rules that a reading may vary
 module _ (rd : Reading) (s : List ℕ) (st : ParserState) where
@@ -107,8 +105,8 @@ module _ (rd : Reading) (s : List ℕ) (st : ParserState) where
     unfoldable pub open_under : Act
     open_under =
         elim (opens_italic s st p) [
-          | true ↦ elim (italic_end rd s (p + 1)) [ At q ↦ Ends p (moved (italic_to st q) (p + 1) (Item (StartItalic p))) | Nowhere ↦ One ]
-          | false ↦ elim (subscript_end rd s (p + 1)) [ At q ↦ Ends p (moved (subscript_to st q) (p + 1) (Item (StartSubscript p))) | Nowhere ↦ One ]
+          | true ↦ elim (italic_end rd s (p + 1)) [ Some q ↦ Ends p (moved (italic_to st q) (p + 1) (Some (StartItalic p))) | None ↦ One ]
+          | false ↦ elim (subscript_end rd s (p + 1)) [ Some q ↦ Ends p (moved (subscript_to st q) (p + 1) (Some (StartSubscript p))) | None ↦ One ]
         ]
 
     -- `_`: doubled, step two; at the noted italic end, EndItalic
@@ -116,7 +114,7 @@ module _ (rd : Reading) (s : List ℕ) (st : ParserState) where
     under_rule =
         elim (doubled_at s p under) [
           | true ↦ Two
-          | false ↦ elim (eqb p st.end_italic) [ true ↦ Ends p (moved st (p + 1) (Item (EndItalic p))) | false ↦ open_under ]
+          | false ↦ elim (eqb p st.end_italic) [ true ↦ Ends p (moved st (p + 1) (Some (EndItalic p))) | false ↦ open_under ]
         ]
 
   module _ (from p : ℕ) where

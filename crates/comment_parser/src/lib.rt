@@ -1,23 +1,27 @@
 // The parser of comment markup: its item type, its state, and the call that gives the next event. Positions are places in the buffer.
 #![tactic(auto)]
 
+mod items;
 mod own;
 mod pass;
 mod rules;
 
-ghost use Rattle.std.specs.Prelude.{◌≡◌, ◌≤◌, take};
-ghost use Rattle.scans.specs.Notes.{Holds};
+ghost use Rattle.std.specs.Prelude.{◌≡◌, take};
+ghost use Rattle.records.specs.Answer.{checked_answer, state_refusal};
+ghost use Rattle.scans.specs.Notes.{Holds, IsNoted};
 ghost use Rattle.byte_rules.specs.Reading.{named};
 ghost use Rattle.comment_parser.specs.Item.{point, spread, placed_of};
 ghost use Rattle.comment_parser.specs.State.{moved, in_math, in_html, italic_to, subscript_to, fresh};
 ghost use Rattle.comment_parser.specs.Next.{step_answer, give, answered, next_of};
-ghost use Rattle.comment_parser.specs.Notes.{NextBy, Read};
+ghost use Rattle.comment_parser.specs.Notes.{NextBy};
 
 use basics::Span;
 use byte_rules::Reading;
+pub use items::Items;
+pub use own::Form;
 use pass::read_on;
-use records::{Checked, Refusal, check_state};
-use scans::Note;
+use records::{Refusal, check_state};
+use scans::{Note, Noted};
 
 // An event of a comment: a text, a token or a tag by its span, a label or url by its tilde's place and its span, any other by its place.
 #[derive(Clone, Copy)]
@@ -47,6 +51,7 @@ pub struct Placed {
     pub end: usize,
 }
 
+// The kinds' numbers, which belong to the type of the items.
 impl CommentItem {
     pub const TEXT: u32 = 1;
 
@@ -76,7 +81,7 @@ impl CommentItem {
 
     pub const BIB_TAG: u32 = 14;
 
-    // A span alone has its start as place; a place alone has start and end equal to it.
+    // A span alone has its start as place; a place alone has start and end equal to it. A method, whose name says what it gives.
     pub fn placed(self) -> Placed
         ensures { result ≡ placed_of self }
     {
@@ -123,15 +128,8 @@ fn spread(kind: u32, at: usize, s: Span) -> Placed
     }
 }
 
-// An event that waits to be given, if there is one.
-#[derive(Clone, Copy)]
-pub enum Waiting {
-    Nothing,
-    Item(CommentItem),
-}
-
-// Where a parser stands: the end it reads to, its position, its modes, the reading that it goes by, the event that waits, and the noted ends of an italic
-// and a subscript.
+// Where a parser stands: the end it reads to, its position, its modes, the reading that it goes by, the event that waits to be given, if there is one, and
+// the noted ends of an italic and a subscript.
 #[derive(Clone, Copy)]
 pub struct ParserState {
     pub end: usize,
@@ -139,7 +137,7 @@ pub struct ParserState {
     pub math: bool,
     pub html: bool,
     pub reading: Reading,
-    pub waiting: Waiting,
+    pub waiting: Option<CommentItem>,
     pub end_italic: usize,
     pub end_subscript: usize,
 }
@@ -152,13 +150,6 @@ pub enum Act {
     Ends(usize, ParserState),
 }
 
-// The note about tags as it stands after a rule, and what the rule says.
-#[derive(Clone, Copy)]
-pub struct Acted {
-    pub note: Note,
-    pub act: Act,
-}
-
 // The state after a run, and the run's end.
 #[derive(Clone, Copy)]
 pub struct Run {
@@ -166,31 +157,17 @@ pub struct Run {
     pub end: usize,
 }
 
-// An answer of `next`: the state after it first, which so lies at one place in each, and then what is given.
+// What `next` gives: the state after it first, which so lies at one place in each, and the event, or none at the end.
 #[derive(Clone, Copy)]
-pub enum Next {
-    Event(ParserState, CommentItem),
-    End(ParserState),
-    Refused(ParserState, Refusal),
-}
-
-// A run, and the note as it stands after it.
-#[derive(Clone, Copy)]
-pub struct RunNoted {
-    pub run: Run,
-    pub note: Note,
-}
-
-// An answer, and the note to go on with.
-#[derive(Clone, Copy)]
-pub struct NextNoted {
-    pub next: Next,
-    pub note: Note,
+pub struct Next {
+    pub state: ParserState,
+    pub item: Option<CommentItem>,
 }
 
 impl ParserState {
-    // No italic end is noted: the largest number, which is no place of a buffer.
-    pub const NO_ITALIC: usize = 18446744073709551615;
+    // No italic end is noted: the largest number, which is no place of a buffer. Nothing asks whether an end is noted, places are
+    // only compared with it, so a number will do.
+    pub const NO_ITALIC: usize = usize::MAX;
 
     // The state of a parser that has yet to read the places from start to end, in the reading that is named.
     pub fn new(reading: Reading, start: usize, end: usize) -> Self
@@ -202,26 +179,20 @@ impl ParserState {
             pos: start,
             math: false,
             html: false,
-            waiting: Waiting::Nothing,
+            waiting: None,
             end_italic: ParserState::NO_ITALIC,
             end_subscript: 0,
         }
     }
 
     // At another place, with what waits.
-    pub(crate) fn moved(self, pos: usize, waiting: Waiting) -> Self
+    pub(crate) fn moved(self, pos: usize, waiting: Option<CommentItem>) -> Self
         ensures { result ≡ moved self pos waiting }
     {
-        let reading = self.reading;
         Self {
-            reading,
-            end: self.end,
             pos,
-            math: self.math,
-            html: self.html,
             waiting,
-            end_italic: self.end_italic,
-            end_subscript: self.end_subscript,
+            ..self
         }
     }
 
@@ -253,64 +224,62 @@ impl ParserState {
         self
     }
 
+    // 1 if a buffer of `len` bytes is too long, 3 if the state is none of it.
+    fn check(self, len: usize) -> Result<(), Refusal>
+        ensures { checked_answer result ≡ state_refusal len self.pos self.end }
+    {
+        check_state(len, self.pos, self.end)
+    }
+
     // The next event, or the end, with a note on tags that an earlier call over the same text gave, or `Note::nothing()`: if it holds, the answer is
-    // that of `next`, and the note given back holds. What `next` refuses is refused whatever the note is, with the state and the note as given.
-    pub fn next_noted(self, buf: &[u8], note: Note) -> NextNoted
+    // that of `next`, and the note given back holds. What `next` refuses is refused whatever the note is; the state and the note are then as given.
+    pub fn next_noted(self, buf: &[u8], note: Note) -> Result<Noted<Next>, Refusal>
         ensures { NextBy buf.now self note result }
     {
-        let end = self.end;
-        let pos = self.pos;
-        if let Checked::Refused(why) = check_state(buf.len(), pos, end) {
-            return NextNoted {
-                next: Next::Refused(self, why),
-                note,
-            };
-        }
-        self.next_within(buf, note)
+        self.check(buf.len())?;
+        Ok(self.next_within(buf, note))
     }
 
     // The same of a state that is not refused, unchecked: a loop that checks the state it starts from need not check those on the way.
-    pub fn next_within(self, buf: &[u8], note: Note) -> NextNoted
-        ensures { Holds (take self.end buf.now) note → Read (take self.end buf.now) (answered (named self.reading) buf.now self) result }
+    #[tactic(auto, using(std::proofs::lemmas::List::take_min), unfolding(crate::specs::Next::answered))]
+    pub fn next_within(self, buf: &[u8], note: Note) -> Noted<Next>
+        ensures { Holds (take self.end buf.now) note → IsNoted (take self.end buf.now) (answered (named self.reading) buf.now self) result }
     {
-        let waiting = self.waiting;
-        match waiting {
-            Waiting::Item(_) => NextNoted {
-                next: give(self),
+        match self.waiting {
+            Some(_) => Noted {
+                value: give(self),
                 note,
             },
-            Waiting::Nothing => {
-                let cut = cut_at(buf.len(), self.end);
+            None => {
+                let cut = self.end.min(buf.len());
                 read_on(&buf[..cut], self, note)
             }
         }
     }
 
     // The next event, or the end. Refused are a buffer that is too long (1), and a state whose position is past its end or
-    // whose end is past the buffer's (3), with the state as given.
-    pub fn next(self, buf: &[u8]) -> Next
-        ensures { step_answer result ≡ next_of (named self.reading) buf.now self }
+    // whose end is past the buffer's (3); the state is then as given.
+    pub fn next(self, buf: &[u8]) -> Result<Next, Refusal>
+        ensures { step_answer self result ≡ next_of (named self.reading) buf.now self }
     {
-        let noted = self.next_noted(buf, Note::nothing());
-        noted.next
+        let noted = self.next_noted(buf, Note::nothing())?;
+        Ok(noted.value)
     }
 }
 
-// Gives what waits, or ends.
+// Gives what waits, or ends. By a match, which costs no copy of the state where nothing waits.
+#[tactic(auto, unfolding(crate::specs::Next::give))]
 fn give(st: ParserState) -> Next
     ensures { result ≡ give st }
 {
-    let waiting = st.waiting;
-    let pos = st.pos;
-    match waiting {
-        Waiting::Item(item) => Next::Event(st.moved(pos, Waiting::Nothing), item),
-        Waiting::Nothing => Next::End(st),
+    match st.waiting {
+        Some(item) => Next {
+            state: st.moved(st.pos, None),
+            item: Some(item),
+        },
+        None => Next {
+            state: st,
+            item: None,
+        },
     }
-}
-
-// Where a text of `len` bytes is cut that is read to `end`: there, or at its own end.
-fn cut_at(len: usize, end: usize) -> usize
-    ensures { (result ≤ len) × (end ≤ len → result ≡ end) × (len ≤ end → result ≡ len) }
-{
-    if end <= len { end } else { len }
 }

@@ -1,70 +1,58 @@
-// The parser's own unescape calls, over a span that its state reaches.
+// The parser's own unescape call, over a span that its state reaches.
 ghost use Rattle.std.specs.Prelude.{◌≡◌, length};
-ghost use Rattle.byte_rules.specs.Classes.{is_text_escape, is_label_escape, is_math_escape};
 ghost use Rattle.records.specs.Answer.{checked_answer, filled_answer};
 ghost use Rattle.unescape.specs.Unescape.{is_escape};
-ghost use Rattle.comment_parser.specs.Own.{own_refusal, own_answer, own_left};
+ghost use Rattle.comment_parser.specs.Own.{escapes_of, own_refusal, own_answer, own_left};
 
 use crate::ParserState;
-use records::{Checked, Filled, LONGEST, Refusal};
+use records::{FillError, Refusal, check_span, check_state};
 use unescape::{Escape, unescape};
 
-// 1 for the buffer, 2 for the span, also if it ends past the state's end, 3 for the state.
-fn check_own(len: usize, st: ParserState, start: usize, end: usize) -> Checked
-    ensures { checked_answer result ≡ own_refusal len st start end }
-{
-    if LONGEST < len {
-        return Checked::Refused(Refusal::TooLong);
-    }
-    if (end < start) | (len < end) | (st.end < end) {
-        return Checked::Refused(Refusal::BadSpan);
-    }
-    if (st.end < st.pos) | (len < st.end) {
-        return Checked::Refused(Refusal::BadState);
-    }
-    Checked::Good
-}
-
-fn unescape_own(
-    st: ParserState,
-    kind: Escape,
-    buf: &[u8],
-    start: usize,
-    end: usize,
-    out: &mut [u8],
-) -> Filled
-    ensures answer { filled_answer result ≡ own_answer (is_escape kind) st buf.now start end (length out.old) }
-    ensures left { out.new ≡ own_left (is_escape kind) st buf.now start end out.old }
-{
-    if let Checked::Refused(why) = check_own(buf.len(), st, start, end) {
-        return Filled::Refused(why);
-    }
-    unescape(kind, buf, start, end, out)
+// What a span is read as: a Text, in the state's present mode; a Label or a Url; a MathToken.
+#[derive(Clone, Copy)]
+pub enum Form {
+    Text,
+    Label,
+    Math,
 }
 
 impl ParserState {
-    // A Text, in the state's present mode.
-    pub fn unescape_text(self, buf: &[u8], start: usize, end: usize, out: &mut [u8]) -> Filled
-        ensures answer { filled_answer result ≡ own_answer (is_text_escape self.html) self buf.now start end (length out.old) }
-        ensures left { out.new ≡ own_left (is_text_escape self.html) self buf.now start end out.old }
+    fn escape(self, form: Form) -> Escape
+        ensures { is_escape result ≡ escapes_of form self }
     {
-        let html = self.html;
-        unescape_own(self, Escape::Text { html }, buf, start, end, out)
+        match form {
+            Form::Text => Escape::Text { html: self.html },
+            Form::Label => Escape::Label,
+            Form::Math => Escape::Math,
+        }
     }
 
-    // A Label or a Url.
-    pub fn unescape_label(self, buf: &[u8], start: usize, end: usize, out: &mut [u8]) -> Filled
-        ensures answer { filled_answer result ≡ own_answer is_label_escape self buf.now start end (length out.old) }
-        ensures left { out.new ≡ own_left is_label_escape self buf.now start end out.old }
+    // 1 for the buffer, 2 for the span, also if it ends past the state's end, 3 for the state.
+    #[tactic(auto, unfolding(crate::specs::Own::own_refusal))]
+    fn check_own(self, len: usize, start: usize, end: usize) -> Result<(), Refusal>
+        ensures { checked_answer result ≡ own_refusal len self start end }
     {
-        unescape_own(self, Escape::Label, buf, start, end, out)
+        check_span(len, start, end)?;
+        if self.end < end {
+            return Err(Refusal::BadSpan);
+        }
+        check_state(len, self.pos, self.end)
     }
 
-    // A MathToken.
-    pub fn unescape_math(self, buf: &[u8], start: usize, end: usize, out: &mut [u8]) -> Filled
-        ensures answer { filled_answer result ≡ own_answer is_math_escape self buf.now start end (length out.old) }
-        ensures left { out.new ≡ own_left is_math_escape self buf.now start end out.old }
+    // The span of `buf`, unescaped as its form says, at the front of `out`: all of it or nothing.
+    #[tactic(auto, using(crate::proofs::Answers::own_good), unfolding(records::specs::Records::text_answer, records::specs::Records::text_left))]
+    pub fn unescape(
+        self,
+        form: Form,
+        buf: &[u8],
+        start: usize,
+        end: usize,
+        out: &mut [u8],
+    ) -> Result<usize, FillError>
+        ensures answer { filled_answer result ≡ own_answer (escapes_of form self) self buf.now start end (length out.old) }
+        ensures left { out.new ≡ own_left (escapes_of form self) self buf.now start end out.old }
     {
-        unescape_own(self, Escape::Math, buf, start, end, out)
+        self.check_own(buf.len(), start, end)?;
+        unescape(self.escape(form), buf, start, end, out)
     }
 }

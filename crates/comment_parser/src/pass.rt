@@ -1,16 +1,16 @@
 // A pass: the run from the current position to what ends it, and the event that comes of it.
 ghost use Rattle.std.specs.Prelude.{◌≡◌, ◌≤◌, length};
 ghost use Rattle.byte_rules.specs.Reading.{named};
-ghost use Rattle.scans.specs.Notes.{Holds};
+ghost use Rattle.scans.specs.Notes.{Holds, IsNoted};
 ghost use Rattle.comment_parser.specs.Pass.{pass, run_start, run_item};
 ghost use Rattle.comment_parser.specs.Next.{read_on};
-ghost use Rattle.comment_parser.specs.Notes.{Ran, Read, Skipped};
+ghost use Rattle.comment_parser.specs.Notes.{Skipped};
 
-use crate::rules::pass_act;
-use crate::{Act, CommentItem, Next, NextNoted, ParserState, Run, RunNoted, Waiting, give};
+use crate::rules::Here;
+use crate::{Act, CommentItem, Next, ParserState, Run, give};
 use basics::Span;
 use scans::plain::plain_end;
-use scans::{Note, blanks_end};
+use scans::{Note, Noted, blanks_end};
 
 // The next place from p on at which a rule may act: outside math the plain bytes are stepped over, up to the noted subscript end.
 pub(crate) fn skip(text: &[u8], st: ParserState, p: usize) -> usize
@@ -21,43 +21,40 @@ pub(crate) fn skip(text: &[u8], st: ParserState, p: usize) -> usize
     }
     let noted = st.end_subscript;
     let q = plain_end(text, p);
-    if p < noted {
-        if noted <= q {
-            return noted - 1;
-        }
+    if p < noted && noted <= q {
+        noted - 1
+    } else {
+        q
     }
-    q
 }
 
 // The run from `from`, to what ends it.
-pub(crate) fn pass(text: &[u8], st: ParserState, from: usize, note: Note) -> RunNoted
-    ensures { Holds text.now note → Ran text.now (pass (named st.reading) text.now st from) result }
+pub(crate) fn pass(text: &[u8], st: ParserState, from: usize, note: Note) -> Noted<Run>
+    ensures { Holds text.now note → IsNoted text.now (pass (named st.reading) text.now st from) result }
 {
     let mut p = from;
-    let mut n = note;
+    let mut note = note;
+    // By index: a step is one byte or two, or over all plain bytes at once.
     loop {
         p = skip(text, st, p);
         if text.len() <= p {
             let end = text.len();
-            return RunNoted {
-                run: Run {
-                    end,
-                    after: st.moved(end, Waiting::Nothing),
-                },
-                note: n,
+            let after = st.moved(end, None);
+            return Noted {
+                value: Run { end, after },
+                note,
             };
         }
-        let acted = pass_act(text, st, from, p, n);
-        let act = acted.act;
-        let later = acted.note;
-        n = later;
-        match act {
+        let here = Here { text, from, p };
+        let acted = here.pass_act(st, note);
+        note = acted.note;
+        match acted.value {
             Act::One => p += 1,
             Act::Two => p += 2,
-            Act::Ends(q, t) => {
-                return RunNoted {
-                    run: Run { end: q, after: t },
-                    note: n,
+            Act::Ends(end, after) => {
+                return Noted {
+                    value: Run { end, after },
+                    note,
                 };
             }
         }
@@ -65,6 +62,7 @@ pub(crate) fn pass(text: &[u8], st: ParserState, from: usize, note: Note) -> Run
 }
 
 // In math, blanks are skipped before the run.
+#[tactic(auto, unfolding(crate::specs::Pass::run_start))]
 pub(crate) fn run_start(text: &[u8], st: ParserState) -> usize
     ensures { result ≡ run_start text.now st }
 {
@@ -72,6 +70,7 @@ pub(crate) fn run_start(text: &[u8], st: ParserState) -> usize
     if st.math { blanks_end(text, pos) } else { pos }
 }
 
+#[tactic(auto, unfolding(crate::specs::Pass::run_item))]
 pub(crate) fn run_item(st: ParserState, start: usize, end: usize) -> CommentItem
     ensures { result ≡ run_item st start end }
 {
@@ -84,24 +83,23 @@ pub(crate) fn run_item(st: ParserState, start: usize, end: usize) -> CommentItem
 }
 
 // The run, if it is not empty, and then what ended it.
-pub(crate) fn read_on(text: &[u8], st: ParserState, note: Note) -> NextNoted
-    ensures { Holds text.now note → Read text.now (read_on (named st.reading) text.now st) result }
+#[tactic(auto, unfolding(crate::specs::Next::read_on))]
+pub(crate) fn read_on(text: &[u8], st: ParserState, note: Note) -> Noted<Next>
+    ensures { Holds text.now note → IsNoted text.now (read_on (named st.reading) text.now st) result }
 {
     let from = run_start(text, st);
-    let noted = pass(text, st, from, note);
-    let run = noted.run;
-    let later = noted.note;
-    let end = run.end;
-    let after = run.after;
-    if from < end {
-        NextNoted {
-            next: Next::Event(after, run_item(st, from, end)),
-            note: later,
+    let Noted { value: run, note } = pass(text, st, from, note);
+    if from < run.end {
+        let state = run.after;
+        let item = Some(run_item(st, from, run.end));
+        Noted {
+            value: Next { state, item },
+            note,
         }
     } else {
-        NextNoted {
-            next: give(after),
-            note: later,
+        Noted {
+            value: give(run.after),
+            note,
         }
     }
 }

@@ -7,6 +7,7 @@ use mathlib.Core.Logic.{◌⊎◌, inl, inr}
 use mathlib.Core.Path.{◌≡◌, refl}
 use native.Mathlib.Nat.{le_refl}
 use native.Mathlib.Omega.{arith}
+use Rattle.std.specs.Prelude.{Some, None}
 use lib.Dec.{eqb}
 use lib.ListN.{get_or, length, take, drop}
 use Rattle.basics.proofs.Laws.{by_test, by_place}
@@ -22,7 +23,6 @@ use Rattle.comment_parser.specs.Rules.{after_lf, label_item, tick_rule, tilde_ru
 use Rattle.comment_parser.specs.Rules.{opens_italic, open_under, under_rule, plain_rule, text_rule, first_rule, pass_act}
 use Rattle.comment_parser.specs.Pass.{pass}
 use Rattle.comment_parser.specs.declared.CommentItem.{CommentItem}
-use Rattle.comment_parser.specs.declared.Waiting.TheVariants.{Item, Nothing}
 use Rattle.comment_parser.specs.declared.ParserState.{ParserState}
 use Rattle.comment_parser.specs.declared.Act.{Act}
 use Rattle.comment_parser.specs.declared.Run.{Run}
@@ -41,13 +41,13 @@ labelled s {buf} {b} {r} {q} {p} {x} {y} {n} f g h k l =
 module _ (buf : List ℕ) (b : ℕ) (st : ParserState) (from q : ℕ) (t : ParserState) where
   -- and no event follows: in math at a blank, or at the end
   abbrev Plain : Type 0
-  Plain = t ≡ moved st q Nothing
+  Plain = t ≡ moved st q None
 
   -- or by an event, which waits
   pub record Ended : Type 0 where
     pub item : CommentItem
     pub ending : Ending buf b from st.math q item t.math t.pos
-    pub waits : t.waiting ≡ Item item
+    pub waits : t.waiting ≡ Some item
 
   abbrev pub Passed : Type 0
   Passed = Plain ⊎ Ended
@@ -61,7 +61,7 @@ module _ {s buf : List ℕ} {b : ℕ} (cut : Cut s buf b) (st : ParserState) (fr
   abbrev Fine : Act → Type 0
   Fine a = Good (λ i. from ≤ i) (RunPassed buf b st from) p a
 
-  by_ending : (q : ℕ) (t : ParserState) (c : CommentItem) → Ending buf b from st.math q c t.math t.pos → t.waiting ≡ Item c → Passed buf b st from q t
+  by_ending : (q : ℕ) (t : ParserState) (c : CommentItem) → Ending buf b from st.math q c t.math t.pos → t.waiting ≡ Some c → Passed buf b st from q t
   by_ending q t c m w = inr (record { item = c; ending = m; waits = w })
 
   tick_fine : byte_at s p tick ≡ true → Fine (tick_rule s st from p)

@@ -7,6 +7,7 @@ use mathlib.Core.List.{List}
 use mathlib.Core.Logic.{inl, inr}
 use mathlib.Core.Path.{◌≡◌, refl, sym, subst, ◌∙◌}
 use native.Mathlib.Omega.{arith}
+use Rattle.std.specs.Prelude.{None}
 use lib.ListN.{length, take}
 use lib.Seq.{length-take-le, get_or-take}
 use Rattle.basics.proofs.Laws.{by_test}
@@ -15,14 +16,12 @@ use Rattle.byte_rules.specs.Reading.{Reading}
 use Rattle.comment_parser.specs.Item.{span}
 use Rattle.comment_parser.specs.State.{Accepted, fresh, moved}
 use Rattle.comment_parser.specs.Pass.{run_start, run_item}
-use Rattle.comment_parser.specs.Next.{answered}
+use Rattle.comment_parser.specs.Next.{some_event, answered}
 use Rattle.comment_parser.specs.Events.{left, events_from, events_of}
 use Rattle.comment_parser.specs.declared.CommentItem.{CommentItem}
 use Rattle.comment_parser.specs.declared.CommentItem.TheVariants.{Text, MathToken}
 use Rattle.comment_parser.specs.declared.Next.{Next}
-use Rattle.comment_parser.specs.declared.Next.TheVariants.{Event}
 use Rattle.comment_parser.specs.declared.ParserState.{ParserState}
-use Rattle.comment_parser.specs.declared.Waiting.TheVariants.{Nothing}
 use Rattle.comment_parser.proofs.Progress.{After, pass_after}
 use Rattle.comment_parser.proofs.Laws.{run_start_le, run_start_clean}
 use Rattle.comment_parser.proofs.Turns.{Turn, waited, ran, ended, over, turn, past_waiting, begun_at_end}
@@ -40,7 +39,7 @@ module _ (rd : Reading) (buf : List ℕ) where
   Reads n = (st : ParserState) → Accepted buf st → left st < n → ReadToEnd rd buf st (events_from rd buf st)
 
   module _ (n : ℕ) (rest : Reads n) (st : ParserState) (a : Accepted buf st) (small : left st < suc n) where
-    by_event : (t : ParserState) (c : CommentItem) → answered rd buf st ≡ Event t c → ReadToEnd rd buf st (events_from rd buf st)
+    by_event : (t : ParserState) (c : CommentItem) → answered rd buf st ≡ some_event t c → ReadToEnd rd buf st (events_from rd buf st)
     by_event t c e =
         let see = seen_event rd buf st c t a e in
         let k = rest t (stays_accepted rd buf st (c, t) see) (omega (arith, (seen_on rd buf st (c, t) see).less)) in
@@ -87,15 +86,15 @@ module _ (buf : List ℕ) (b : ℕ) where
       {s : List ℕ} {st : ParserState} {r q : ℕ} (t : ParserState) → length s ≡ b → After s st r q t → Gap buf st.math st.pos r → Passed buf b st r q t →
       telling.Passed Is Accounts st st r q t
   accounted {st = st} {r} {q} t long o g (inl k) =
-      let w : t.waiting ≡ Nothing = rw k in
+      let w : t.waiting ≡ None = rw k in
       rw k
       (telling.none_waits refl
       (λ l. let a : r ≡ b = begun_at_end o w l ∙ long in end (rw a at g))
-      (λ l. record { to = moved st q Nothing; stands = refl; tells = λ es a. rw (run_item_lem st r q) (run g l a) }))
+      (λ l. record { to = moved st q None; stands = refl; tells = λ es a. rw (run_item_lem st r q) (run g l a) }))
   accounted {st = st} {r} {q} t long o g (inr k) =
       telling.one_waits k.waits
-      (λ l. let z : q ≡ r = omega (arith, o.starts) in record { to = moved t t.pos Nothing; stands = refl; tells = λ es a. ending g (past_waiting o k.waits) (rw z at k.ending) a })
-      (λ l. record { to = moved t t.pos Nothing; stands = refl; tells = λ es a. rw (run_item_lem st r q) (run_ending g l o.past_run k.ending a) })
+      (λ l. let z : q ≡ r = omega (arith, o.starts) in record { to = moved t t.pos None; stands = refl; tells = λ es a. ending g (past_waiting o k.waits) (rw z at k.ending) a })
+      (λ l. record { to = moved t t.pos None; stands = refl; tells = λ es a. rw (run_item_lem st r q) (run_ending g l o.past_run k.ending a) })
 
   module _ (rd : Reading) (fits : b ≤ length buf) where
     passes : (m st : ParserState) → telling.Ready buf b st → m ≡ st → telling.Passes Is Accounts rd buf b m st

@@ -2,6 +2,7 @@
 -- It stands on document 01's blanks and closers (byte_rules), on an item's record form and on the events of a span (comment_parser, demand 2); it cites
 -- no reading rule of the parser. The two theorems at the end are proved in proofs/Theorem.antt, for any reading.
 use Rattle.std.specs.Prelude.{ℕ, suc, ◌+◌, ◌-◌, ◌*◌, ◌≤◌, ◌<◌, Bool, true, false, List, [], ◌∷◌, ◌++◌, ◌≡◌, eqb, get_or, length}
+use Rattle.std.specs.Prelude as prelude
 use Prim.Native.Char.{code}
 use Rattle.std.proofs.Math.Option.{Option, none, some}
 use Rattle.records.specs.Answer.{bare, longest}
@@ -192,9 +193,9 @@ module _ (buf : List ℕ) where
 
 -- `next`, from a state on, answers 0 with each event of a list in turn, and then 0 with no event
 pub data ReadToEnd (rd : Reading) (buf : List ℕ) : ParserState → List CommentItem → Type 0 where
-  at_end_case : {st t : ParserState} → next_of rd buf st ≡ record { answer = bare 0; event = none; state = t } → ReadToEnd rd buf st []
+  at_end_case : {st t : ParserState} → next_of rd buf st ≡ record { answer = bare 0; event = prelude.None; state = t } → ReadToEnd rd buf st []
   event :
-      {st t : ParserState} {c : CommentItem} {es : List CommentItem} → next_of rd buf st ≡ record { answer = bare 0; event = some c; state = t } →
+      {st t : ParserState} {c : CommentItem} {es : List CommentItem} → next_of rd buf st ≡ record { answer = bare 0; event = prelude.Some c; state = t } →
       ReadToEnd rd buf t es → ReadToEnd rd buf st (c ∷ es)
 
 -- places never fall along the list, from k on, and none lies past b

@@ -27,9 +27,15 @@ use Rattle.comment_parser.specs.Places.{PlaceOf, at_byte, at_end_case}
 use Rattle.comment_parser.specs.declared.CommentItem.{CommentItem}
 use Rattle.comment_parser.proofs.Events.{events_on, events_end, events_start}
 use Rattle.comment_parser.proofs.Giving.{Giving}
+use Rattle.comment_parser.proofs.ItemsLaid.{Gives}
 use Rattle.comment_parser.proofs.Places.{every_place}
 use Rattle.events.specs.Events.{event_width, placed_record, placed_from, placed_records, event_records}
 
+-- each event gives its record
+pub records_give : Gives event_width (λ (i : CommentItem). placed_record i ∷ []) (map placed_record)
+records_give = record { wide = λ i. (refl, tt); one = λ i. omega arith; on = λ i is. refl; over = refl }
+
+-- the same of the events from a state on, and the records of a span are those from a fresh start on
 pub records_given : (rd : Reading) (buf : List ℕ) → Giving rd event_width buf (λ (i : CommentItem). placed_record i ∷ []) (placed_from rd buf)
 records_given rd buf = record {
   wide = λ i. (refl, tt);
@@ -38,7 +44,6 @@ records_given rd buf = record {
   over = λ st h. ap (map placed_record) (events_end rd buf st h);
 }
 
--- the records of a span are those from a fresh start on
 pub records_start : (name : Name) (buf : List ℕ) (start end : ℕ) → placed_from (named name) buf (fresh name start end) ≡ placed_records (named name) buf start end
 records_start name buf start end = ap (map placed_record) (events_start name buf start end)
 

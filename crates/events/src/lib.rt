@@ -10,10 +10,9 @@ ghost use Rattle.comment_parser.specs.Bounds.{Within};
 ghost use Rattle.events.specs.Events.{event_width, placed_words, events_answer, events_left};
 
 use byte_rules::Reading;
-use comment_parser::{CommentItem, Next, ParserState};
+use comment_parser::{CommentItem, Items};
 use lines::fill_lines;
-use records::{Checked, Filled, Wrote, check_span, lay};
-use scans::Note;
+use records::{FillError, Wrote, fits, lay};
 
 // How many words an event record has: kind, place, start, end, line.
 pub const EVENT_WIDTH: usize = 5;
@@ -32,35 +31,23 @@ fn lay_event(room: &mut [u32], item: CommentItem) -> Wrote
 }
 
 // The event records of the span from `start` to `end` of `buf`, in the reading that is named, in `out`: the first that fit, and the full
-// count. A buffer that is too long (1) and a span that is none of it (2) are refused, and nothing is written.
-pub fn events(reading: Reading, buf: &[u8], start: usize, end: usize, out: &mut [u32]) -> Filled
+// count. A buffer that is too long (1) and a span that is none of it (2) are refused, and nothing is written. As in every call that reads a
+// buffer, its span is two numbers beside it: any two are answered, so a type for them would say nothing of them.
+pub fn events(
+    reading: Reading,
+    buf: &[u8],
+    start: usize,
+    end: usize,
+    out: &mut [u32],
+) -> Result<usize, FillError>
     ensures answer { filled_answer result ≡ events_answer (named reading) buf.now start end (length out.old) }
     ensures left { out.new ≡ events_left (named reading) buf.now start end out.old }
 {
-    if let Checked::Refused(why) = check_span(buf.len(), start, end) {
-        return Filled::Refused(why);
+    let mut done = Wrote::NOTHING;
+    for item in Items::new(reading, buf, start, end)? {
+        let wrote = lay_event(&mut out[done.words..], item);
+        done = done.then(wrote);
     }
-    let mut st = ParserState::new(reading, start, end);
-    let mut note = Note::nothing();
-    let mut at: usize = 0;
-    let mut n: usize = 0;
-    loop {
-        let noted = st.next_within(buf, note);
-        let next = noted.next;
-        let later = noted.note;
-        let Next::Event(after, item) = next else {
-            break;
-        };
-        let wrote = lay_event(&mut out[at..], item);
-        at += wrote.words;
-        n += wrote.count;
-        st = after;
-        note = later;
-    }
-    fill_lines(buf, n, out);
-    if n <= out.len() / EVENT_WIDTH {
-        Filled::Done(n)
-    } else {
-        Filled::Short(n)
-    }
+    fill_lines(buf, done.count, out);
+    fits(done.count, out.len() / EVENT_WIDTH)
 }

@@ -7,12 +7,11 @@ use lib.ListN.{length}
 use native.Mathlib.Omega.{arith}
 use Rattle.scans.specs.Scan.{scan}
 use Rattle.byte_rules.specs.Reading.{named}
-use Rattle.scans.specs.Notes.{Holds}
+use Rattle.scans.specs.Notes.{Holds, IsNoted}
 use Rattle.scans.specs.declared.Step.{Step}
 use Rattle.scans.proofs.Laws.{scan_end, scan_one, scan_two, scan_stop}
 use Rattle.comment_parser.specs.Rules.{pass_act}
 use Rattle.comment_parser.specs.Pass.{pass_step}
-use Rattle.comment_parser.specs.Notes.{Acts}
 use Rattle.comment_parser.proofs.Laws.{step_is, ended, ran_out, skip_less}
 use Rattle.comment_parser.proofs.pass.pass.Goals as goal
 use Rattle.comment_parser.proofs.pass.pass.Goals.{After-pass_act-acted}
@@ -24,7 +23,7 @@ pub returns-then-text-p : goal.returns-then-text-p
 returns-then-text-p c = λ h.
     let here = c.loop-p.invariant.1 h in
     let ends = here.0 ∙ c.skip-p.ensures.over _ _ ∙ scan_end _ _ _ (omega arith) in
-    record { is = rw c.moved.ensures (sym (ran_out _ _ _ _ ends)); holds = here.1 }
+    record { is = rw c.moved-after.ensures (sym (ran_out _ _ _ _ ends)); holds = here.1 }
 
 pub pass_act-acted-requires : goal.pass_act-acted-requires
 pass_act-acted-requires c = omega (arith, skip_less _ _ _ _ c.skip-p.ensures (omega arith), c.loop-p.invariant.0)
@@ -43,7 +42,7 @@ module _ (c : After-pass_act-acted) where
   comes : Holds text c.args.note → scan step (length text) c.args.from ≡ scan step (length text) here
   comes h = (c.loop-p.invariant.1 h).0 ∙ c.skip-p.ensures.over _ _
 
-  says : Holds text c.args.note → Acts text (pass_act (named c.args.st.reading) text c.args.st c.args.from here) c.pass_act-acted.result
+  says : Holds text c.args.note → IsNoted text (pass_act (named c.args.st.reading) text c.args.st c.args.from here) c.pass_act-acted.result
   says h = c.pass_act-acted.ensures (c.loop-p.invariant.1 h).1
 
   ahead : c.loop-p.p ≤ here

@@ -11,7 +11,7 @@ use Rattle.comment_parser.proofs.pass.pass.Given as goal
 
 abbrev pub invariant-loop-p : goal.invariant-loop-p
 invariant-loop-p l =
-    (l.from ≤ l.p) × (Holds l.text l.initial.n → (scan (pass_step (named l.st.reading) l.text l.st l.from) (length l.text) l.from ≡ scan (pass_step (named l.st.reading) l.text l.st l.from) (length l.text) l.p) × Holds l.text l.n)
+    (l.from ≤ l.p) × (Holds l.text l.initial.note → (scan (pass_step (named l.st.reading) l.text l.st l.from) (length l.text) l.from ≡ scan (pass_step (named l.st.reading) l.text l.st l.from) (length l.text) l.p) × Holds l.text l.note)
 
 abbrev pub decreases-loop-p : goal.decreases-loop-p
 decreases-loop-p l = length l.text - l.p

@@ -11,8 +11,5 @@ use Rattle.comment_parser.proofs.pass.skip.Goals as goal
 pub returns-then-noted-q : goal.returns-then-noted-q
 returns-then-noted-q c = let a = c.args in let e = c.plain_end-q.ensures in skip_to _ _ _ _ c.if-st.false (omega arith) (λ l. omega (arith, scan_end (plain_step a.text.now) (length a.text.now) a.p l)) (λ l. omega arith) (λ k x y z. omega arith)
 
-pub returns-else-noted-q : goal.returns-else-noted-q
-returns-else-noted-q c = let e = c.plain_end-q.ensures in skip_to _ _ _ _ c.if-st.false (omega arith) (λ l. e ∙ scan_end _ _ _ l) (λ l. rw e (scan_ge _ _ _ _ (omega arith) l)) (λ k x y z. omega arith)
-
 pub returns-else-p-noted : goal.returns-else-p-noted
 returns-else-p-noted c = let e = c.plain_end-q.ensures in skip_to _ _ _ _ c.if-st.false (omega arith) (λ l. e ∙ scan_end _ _ _ l) (λ l. rw e (scan_ge _ _ _ _ (omega arith) l)) (λ k x y z. omega arith)
