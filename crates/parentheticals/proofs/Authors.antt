@@ -4,7 +4,7 @@ use Prim.Native.Nat.{ℕ, zero, suc, ◌+◌, ◌-◌, ◌<◌, ◌≤◌}
 use mathlib.Core.Path.{◌≡◌, refl, ap, sym, ◌∙◌}
 use mathlib.Core.List.{List}
 use mathlib.Core.Bool.{Bool, true, false, cond}
-use mathlib.Core.Option.{none, some}
+use Rattle.std.specs.Prelude.{None, Some}
 use native.Mathlib.Omega.{arith}
 use lib.Dec.{leb, eqb}
 use lib.ListN.{length, get_or}
@@ -40,7 +40,7 @@ module _ (bars : ℕ → Bool) (s : List ℕ) where
 
   -- ---- as many characters as bytes are enough
 
-  past : (k i : ℕ) → length s ≤ i → author_within bars k s i ≡ none
+  past : (k i : ℕ) → length s ≤ i → author_within bars k s i ≡ None
   unfolding author_within
   past zero i h = refl
   past (suc k) i h = rw (byte_past s i comma h, ← len_past bars s i h)
@@ -60,12 +60,12 @@ module _ (bars : ℕ → Bool) (s : List ℕ) where
   -- ---- the ways from i
 
   module _ (i : ℕ) where
-    pub author_comma : byte_at s i comma ≡ true → author_end bars s i ≡ some i
+    pub author_comma : byte_at s i comma ≡ true → author_end bars s i ≡ Some i
     unfolding author_end author_within
     author_comma e = rw e
 
     module _ (e : byte_at s i comma ≡ false) where
-      pub author_stop : author_len bars s i ≡ 0 → author_end bars s i ≡ none
+      pub author_stop : author_len bars s i ≡ 0 → author_end bars s i ≡ None
       unfolding author_end author_within
       author_stop z = rw (e, eq-eqb _ 0 z)
 
@@ -79,22 +79,22 @@ module _ (bars : ℕ → Bool) (s : List ℕ) where
 
   -- ---- the end is a `,`, from the start on
 
-  within_ends : (k i j : ℕ) → author_within bars k s i ≡ some j → (i ≤ j) × (byte_at s j comma ≡ true)
+  within_ends : (k i j : ℕ) → author_within bars k s i ≡ Some j → (i ≤ j) × (byte_at s j comma ≡ true)
   unfolding author_within
   within_ends zero i j e = never e
   within_ends (suc k) i j e = go (byte_at s i comma) (eqb (author_len bars s i) 0) refl refl (within_ends k (i + author_len bars s i) j)
     where
       go : (t u : Bool) → byte_at s i comma ≡ t → eqb (author_len bars s i) 0 ≡ u
-          → (author_within bars k s (i + author_len bars s i) ≡ some j → (i + author_len bars s i ≤ j) × (byte_at s j comma ≡ true))
+          → (author_within bars k s (i + author_len bars s i) ≡ Some j → (i + author_len bars s i ≤ j) × (byte_at s j comma ≡ true))
           → (i ≤ j) × (byte_at s j comma ≡ true)
       go true u t v ih =
-          let is : some i ≡ some j = rw t at e in
+          let is : Some i ≡ Some j = rw t at e in
           let n : i ≡ j = cc in
           (omega arith, rw n at t)
       go false true t v ih = never (rw (t, v) at e)
       go false false t v ih = let r = ih (rw (t, v) at e) in (omega arith, r.1)
 
-  pub author_ends : (i j : ℕ) → author_end bars s i ≡ some j → (i ≤ j) × (byte_at s j comma ≡ true)
+  pub author_ends : (i j : ℕ) → author_end bars s i ≡ Some j → (i ≤ j) × (byte_at s j comma ≡ true)
   unfolding author_end
   author_ends i j e = within_ends (suc (length s)) i j e
 
@@ -105,9 +105,6 @@ module _ (bars : ℕ → Bool) (s : List ℕ) where
 
   at_place : (i j : ℕ) → i ≡ j → author_end bars s i ≡ author_end bars s j
   at_place i j e = ap (λ (k : ℕ). author_end bars s k) e
-
-  pub way_starts : (start : ℕ) → Way start start
-  way_starts start j low high spaced = at_place j start (omega arith)
 
   pub way_on : (start i n : ℕ) → byte_at s i comma ≡ false → n ≡ author_len bars s i → (n ≡ 0 → ⊥) → Way start i → Way start (i + n)
   way_on start i n e is more way j low high spaced = before (leb j i) refl

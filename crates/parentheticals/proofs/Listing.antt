@@ -4,11 +4,13 @@ use Prim.Native.Nat.{ℕ, zero, suc, ◌+◌, ◌-◌, ◌<◌, ◌≤◌}
 use mathlib.Core.Path.{◌≡◌, refl, ap, ◌∙◌}
 use mathlib.Core.List.{List, [], ◌∷◌, map}
 use mathlib.Core.Bool.{Bool}
-use mathlib.Core.Option.{Option, none, some}
+use mathlib.Core.Option as turn
+use Rattle.std.specs.Prelude.{Option, None, Some}
 use native.Mathlib.Omega.{arith}
 use native.Mathlib.Nat.{le_refl}
 use lib.ListN.{length, take}
 use Rattle.basics.specs.declared.Span.{Span}
+use Rattle.basics.proofs.Laws.{differ}
 use Rattle.byte_rules.specs.Reading.{Reading}
 use Rattle.records.specs.Answer.{longest}
 use Rattle.records.specs.Produced.{grow}
@@ -21,21 +23,20 @@ use Rattle.parentheticals.specs.declared.Parenthetical.{Parenthetical}
 use Rattle.parentheticals.specs.declared.Parenthetical.TheVariants.{ContributedBy, RevisedBy, ProofShortenedBy}
 use Rattle.parentheticals.specs.declared.Parenthetical.TheVariants.{ProofModificationDiscouraged, NewUsageDiscouraged}
 use Rattle.parentheticals.specs.declared.Found.{Found}
-use Rattle.parentheticals.proofs.Inside.{never}
 use Rattle.parentheticals.proofs.Lies.{Ordered, InOrder, Lies, next_lies}
 
 module _ (bars : ℕ → Bool) (s : List ℕ) where
-  step_falls : (i : ℕ) (p : Found × ℕ) → step_from bars s i ≡ some p → bytes_left s p.1 < bytes_left s i
+  step_falls : (i : ℕ) (p : Found × ℕ) → step_from bars s i ≡ turn.some p → bytes_left s p.1 < bytes_left s i
   unfolding step_from bytes_left
   step_falls i p e = go (next_from bars s i) refl
     where
       go : (o : Option Found) → next_from bars s i ≡ o → length s - p.1 < length s - i
-      go (some f) q =
+      go (Some f) q =
           let pair : ◌≡◌ {A = Found × ℕ} (f, f.whole.end) p = cc (rw q at e) in
           let end : f.whole.end ≡ p.1 = ap (λ (x : Found × ℕ). x.1) pair in
           let r = next_lies bars s i f q in
           omega (arith, r.behind, r.onward, r.inside)
-      go none q = never (rw q at e)
+      go None q = let h = rw q at e in absurd (differ cc)
 
   matches_step : (i : ℕ) → matches_from bars s i ≡ grow (step_from bars s i) (matches_from bars s)
   unfolding matches_from
@@ -43,12 +44,12 @@ module _ (bars : ℕ → Bool) (s : List ℕ) where
 
   module _ (i : ℕ) where
     -- where nothing is found the list ends
-    pub matches_end : next_from bars s i ≡ none → matches_from bars s i ≡ []
+    pub matches_end : next_from bars s i ≡ None → matches_from bars s i ≡ []
     unfolding step_from
     matches_end e = matches_step i ∙ rw e
 
     -- and else goes on behind what is found
-    pub matches_more : (f : Found) → next_from bars s i ≡ some f → matches_from bars s i ≡ f ∷ matches_from bars s f.whole.end
+    pub matches_more : (f : Found) → next_from bars s i ≡ Some f → matches_from bars s i ≡ f ∷ matches_from bars s f.whole.end
     unfolding step_from
     matches_more f e = matches_step i ∙ rw e
 
@@ -65,13 +66,13 @@ module _ (bars : ℕ → Bool) (s : List ℕ) where
   matches_all P none_left one_more zero i h = go (next_from bars s i) refl
     where
       go : (o : Option Found) → next_from bars s i ≡ o → P i (matches_from bars s i)
-      go none e = rw (matches_end bars s i e) (none_left i)
-      go (some f) e = let r = next_lies bars s i f e in absurd (omega (arith, r.behind, r.onward, r.inside))
+      go None e = rw (matches_end bars s i e) (none_left i)
+      go (Some f) e = let r = next_lies bars s i f e in absurd (omega (arith, r.behind, r.onward, r.inside))
   matches_all P none_left one_more (suc n) i h = go (next_from bars s i) refl (matches_all P none_left one_more n)
     where
       go : (o : Option Found) → next_from bars s i ≡ o → ((j : ℕ) → length s - j ≤ n → P j (matches_from bars s j)) → P i (matches_from bars s i)
-      go none e ih = rw (matches_end bars s i e) (none_left i)
-      go (some f) e ih =
+      go None e ih = rw (matches_end bars s i e) (none_left i)
+      go (Some f) e ih =
           let r = next_lies bars s i f e in
           rw (matches_more bars s i f e) (one_more i f _ r (ih f.whole.end (omega (arith, r.behind, r.onward, r.inside))))
 
@@ -112,10 +113,10 @@ abbrev pub records_from : (ℕ → Bool) → List ℕ → ℕ → List (List ℕ
 records_from bars s i = map record_of (matches_from bars s i)
 
 module _ (bars : ℕ → Bool) (s : List ℕ) (i : ℕ) where
-  pub records_end : next_from bars s i ≡ none → records_from bars s i ≡ []
+  pub records_end : next_from bars s i ≡ None → records_from bars s i ≡ []
   records_end e = ap (map record_of) (matches_end bars s i e)
 
-  pub records_more : (f : Found) → next_from bars s i ≡ some f → records_from bars s i ≡ record_of f ∷ records_from bars s f.whole.end
+  pub records_more : (f : Found) → next_from bars s i ≡ Some f → records_from bars s i ≡ record_of f ∷ records_from bars s f.whole.end
   records_more f e = ap (map record_of) (matches_more bars s i f e)
 
 -- the invariant of the loop over the list: each one took a byte at least, and the records are laid so far

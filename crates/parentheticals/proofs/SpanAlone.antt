@@ -4,7 +4,7 @@ use Prim.Native.Nat.{ℕ, zero, suc, ◌+◌, ◌-◌, ◌≤◌}
 use mathlib.Core.Path.{◌≡◌, refl, ap, sym, ◌∙◌}
 use mathlib.Core.List.{List, [], ◌∷◌}
 use mathlib.Core.Bool.{Bool, true, false}
-use mathlib.Core.Option.{Option, none, some}
+use Rattle.std.specs.Prelude.{Option, None, Some}
 use native.Mathlib.Omega.{arith}
 use native.Mathlib.Nat.{le_refl}
 use lib.ListN.{length, take, drop}
@@ -27,9 +27,9 @@ use Rattle.parentheticals.proofs.Lies.{head_begins, next_lies}
 use Rattle.parentheticals.proofs.Listing.{matches_end, matches_more}
 
 -- one field after the other, the second where the first ends
-bind_same : {A B : Type 0} (p q : Option A) (f h : A → Option B) → p ≡ q → ((a : A) → p ≡ some a → f a ≡ h a) → (p >>= f) ≡ (q >>= h)
-bind_same none q f h e g = rw (sym e)
-bind_same (some a) q f h e g = rw (sym e) (g a refl)
+bind_same : {A B : Type 0} (p q : Option A) (f h : A → Option B) → p ≡ q → ((a : A) → p ≡ Some a → f a ≡ h a) → (p >>= f) ≡ (q >>= h)
+bind_same None q f h e g = rw (sym e)
+bind_same (Some a) q f h e g = rw (sym e) (g a refl)
 
 -- ---- fields
 
@@ -149,14 +149,14 @@ module _ (bars : ℕ → Bool) {s t : List ℕ} where
   matches_same zero i h g = go (next_from bars s i) refl
     where
       go : (o : Option Found) → next_from bars s i ≡ o → matches_from bars s i ≡ matches_from bars t i
-      go none e = matches_end bars s i e ∙ sym (matches_end bars t i (sym (next_same i g) ∙ e))
-      go (some f) e = let r = next_lies bars s i f e in absurd (omega (arith, r.behind, r.onward, r.inside))
+      go None e = matches_end bars s i e ∙ sym (matches_end bars t i (sym (next_same i g) ∙ e))
+      go (Some f) e = let r = next_lies bars s i f e in absurd (omega (arith, r.behind, r.onward, r.inside))
   matches_same (suc n) i h g = go (next_from bars s i) refl (matches_same n)
     where
       go : (o : Option Found) → next_from bars s i ≡ o → ((j : ℕ) → length s - j ≤ n → Alike s t j → matches_from bars s j ≡ matches_from bars t j)
           → matches_from bars s i ≡ matches_from bars t i
-      go none e ih = matches_end bars s i e ∙ sym (matches_end bars t i (sym (next_same i g) ∙ e))
-      go (some f) e ih =
+      go None e ih = matches_end bars s i e ∙ sym (matches_end bars t i (sym (next_same i g) ∙ e))
+      go (Some f) e ih =
           let r = next_lies bars s i f e in
           let g' = alike_on g f.whole.end (omega (arith, r.behind, r.onward)) r.inside in
           let rest = ih f.whole.end (omega (arith, r.behind, r.onward, r.inside)) g' in

@@ -1,41 +1,26 @@
--- What the code's own functions answer each other, and what two of them promise or ask. Document 01 speaks of none of it.
-use Rattle.std.specs.Prelude.{ℕ, ◌≤◌, Bool, List, ◌≡◌}
-use Rattle.std.proofs.Math.Option.{Option, none, some}
-use Rattle.basics.specs.declared.Place.{Place}
-use Rattle.basics.specs.declared.Place.TheVariants.{At, Nowhere}
+-- What two of the code's own functions promise or ask. Document 01 speaks of none of it.
+use Rattle.std.specs.Prelude.{ℕ, ◌<◌, ◌≤◌, Bool, List, length, get_or, ◌≡◌, Option, Some, None}
 use Rattle.records.specs.Answer.{longest}
+use Rattle.scans.specs.Marks.{lparen}
 use Rattle.parentheticals.specs.Matching.{next_from}
 use Rattle.parentheticals.specs.Records.{author_of, date_of}
 use Rattle.parentheticals.specs.declared.Found.{Found}
-use Rattle.parentheticals.specs.declared.matching.Head.{Head}
-use Rattle.parentheticals.specs.declared.matching.Head.TheVariants.{Kind, NoKind}
-use Rattle.parentheticals.specs.declared.matching.Closing.{Closing}
-use Rattle.parentheticals.specs.declared.matching.Tail.{Tail}
-use Rattle.parentheticals.specs.declared.matching.Tail.TheVariants.{Closed, Unclosed}
-use Rattle.parentheticals.specs.declared.matching.Search.{Search}
-use Rattle.parentheticals.specs.declared.matching.Search.TheVariants.{Hit, Nothing}
-
--- what a matcher answers
-abbrev pub place_of : Place → Option ℕ
-place_of (At i) = some i
-place_of Nowhere = none
-
-abbrev pub head_of : Head → Option (ℕ × ℕ)
-head_of (Kind k i) = some (k, i)
-head_of NoKind = none
-
-abbrev pub tail_of : Tail → Option Closing
-tail_of (Closed t) = some t
-tail_of Unclosed = none
-
-abbrev pub found_of : Search → Option Found
-found_of (Hit f) = some f
-found_of Nothing = none
 
 -- a search that is at i may go on at r, whatever bytes a reading bars
 pub record Passed (s : List ℕ) (i r : ℕ) : Type 0 where
   pub same : (bars : ℕ → Bool) → next_from bars s i ≡ next_from bars s r
   pub onward : i ≤ r
+
+-- it may go on at the `(` at r
+pub record OpensAt (s : List ℕ) (i r : ℕ) : Type 0 where
+  pub passed : Passed s i r
+  pub inside : r < length s
+  pub opened : get_or s r 0 ≡ lparen
+
+-- what the search for the next `(` answers: its place, or that nothing is found any more
+abbrev pub Opens : List ℕ → ℕ → Option ℕ → Type 0
+Opens s i (Some r) = OpensAt s i r
+Opens s i None = (bars : ℕ → Bool) → next_from bars s i ≡ None
 
 -- the places of a parenthetical fit a record's words
 pub record InWords (f : Found) : Type 0 where

@@ -2,145 +2,118 @@
 ghost use Rattle.std.specs.Prelude.{◌≡◌};
 ghost use Rattle.byte_rules.specs.Reading.{named};
 ghost use Rattle.parentheticals.specs.Fields.{space_end, spaces_at, sign_at, phrase_at, fits, picture_at, date_at, author_start, author_len};
-ghost use Rattle.parentheticals.specs.Inner.{place_of};
 
-use basics::Place;
 use byte_rules::utf8::char_len;
 use byte_rules::{Reading, is_author_byte, is_capital, is_credit_space, is_digit, is_small};
 use look::byte_at;
 
 // The end of the spaces at `at`.
+#[tactic(auto, using(crate::proofs::FieldLaws::run_past, crate::proofs::FieldLaws::run_stop, crate::proofs::FieldLaws::run_more))]
 fn space_end(text: &[u8], at: usize) -> usize
     ensures { result ≡ space_end text.now at }
 {
-    let mut i = at;
-    while i < text.len() {
-        let b = text[i];
-        if is_credit_space(b) {
-            i += 1;
-        } else {
+    for i in at..text.len() {
+        if !is_credit_space(text[i]) {
             return i;
         }
     }
-    i
+    at.max(text.len())
 }
 
 // Spaces, one or more.
-fn spaces_at(text: &[u8], at: usize) -> Place
-    ensures { place_of result ≡ spaces_at text.now at }
+#[tactic(auto, unfolding(crate::specs::Fields::spaces_at))]
+fn spaces_at(text: &[u8], at: usize) -> Option<usize>
+    ensures { result ≡ spaces_at text.now at }
 {
     let end = space_end(text, at);
-    if at < end {
-        return Place::At(end);
-    }
-    Place::Nowhere
+    if at < end { Some(end) } else { None }
 }
 
 // A byte of a phrase: a space stands for spaces, any other byte for itself.
-fn sign_at(b: u8, text: &[u8], at: usize) -> Place
-    ensures { place_of result ≡ sign_at b text.now at }
+#[tactic(auto, using(look::proofs::Laws::byte_within), unfolding(crate::specs::Fields::sign_at))]
+pub fn sign_at(b: u8, text: &[u8], at: usize) -> Option<usize>
+    ensures { result ≡ sign_at b text.now at }
 {
     if b == b' ' {
         return spaces_at(text, at);
     }
     if byte_at(text, at, b) {
-        return Place::At(at + 1);
+        Some(at + 1)
+    } else {
+        None
     }
-    Place::Nowhere
 }
 
 // A phrase.
-pub fn phrase_at(phrase: &[u8], text: &[u8], at: usize) -> Place
-    ensures { place_of result ≡ phrase_at phrase.now text.now at }
+#[tactic(auto, using(crate::proofs::FieldLaws::phrase_end, crate::proofs::FieldLaws::phrase_next, crate::proofs::FieldLaws::phrase_stop))]
+pub fn phrase_at(phrase: &[u8], text: &[u8], at: usize) -> Option<usize>
+    ensures { result ≡ phrase_at phrase.now text.now at }
 {
     let mut i = at;
-    let mut k: usize = 0;
-    while k < phrase.len() {
-        let Place::At(j) = sign_at(phrase[k], text, i) else {
-            return Place::Nowhere;
-        };
-        i = j;
-        k += 1;
+    for b in phrase {
+        i = sign_at(*b, text, i)?;
     }
-    Place::At(i)
+    Some(i)
 }
 
 // Whether `b` is what `p` stands for in a picture.
+#[tactic(auto, unfolding(crate::specs::Fields::fits))]
 fn is_fit(p: u8, b: u8) -> bool
     ensures { result ≡ fits p b }
 {
-    if p == b'0' {
-        return is_digit(b);
+    match p {
+        b'0' => is_digit(b),
+        b'A' => is_capital(b),
+        b'a' => is_small(b),
+        _ => b == p,
     }
-    if p == b'A' {
-        return is_capital(b);
-    }
-    if p == b'a' {
-        return is_small(b);
-    }
-    b == p
 }
 
 // A picture.
-fn picture_at(picture: &[u8], text: &[u8], at: usize) -> Place
-    ensures { place_of result ≡ picture_at picture.now text.now at }
+#[tactic(auto, using(crate::proofs::FieldLaws::picture_end, crate::proofs::FieldLaws::picture_past, crate::proofs::FieldLaws::picture_next, crate::proofs::FieldLaws::picture_stop))]
+fn picture_at(picture: &[u8], text: &[u8], at: usize) -> Option<usize>
+    ensures { result ≡ picture_at picture.now text.now at }
 {
     let mut i = at;
-    let mut k: usize = 0;
-    while k < picture.len() {
-        if text.len() <= i {
-            return Place::Nowhere;
+    for p in picture {
+        let b = *text.get(i)?;
+        if !is_fit(*p, b) {
+            return None;
         }
-        if is_fit(picture[k], text[i]) {
-            i += 1;
-            k += 1;
-        } else {
-            return Place::Nowhere;
-        }
+        i += 1;
     }
-    Place::At(i)
+    Some(i)
 }
 
 // A date, its day of one digit or of two.
-pub fn date_at(text: &[u8], at: usize) -> Place
-    ensures { place_of result ≡ date_at text.now at }
+#[tactic(auto, unfolding(crate::specs::Fields::date_at))]
+pub fn date_at(text: &[u8], at: usize) -> Option<usize>
+    ensures { result ≡ date_at text.now at }
 {
-    if let Place::At(end) = picture_at(b"0-Aaa-0000", text, at) {
-        return Place::At(end);
-    }
-    picture_at(b"00-Aaa-0000", text, at)
+    picture_at(b"0-Aaa-0000", text, at).or_else(|| picture_at(b"00-Aaa-0000", text, at))
 }
 
 // Where an author starts: the spaces before take all they can while the author keeps one byte.
-pub fn author_start(text: &[u8], at: usize) -> Place
-    ensures { place_of result ≡ author_start text.now at }
+#[tactic(auto, using(look::proofs::Laws::byte_within, crate::proofs::Inside::spaces_are), unfolding(crate::specs::Fields::author_start))]
+pub fn author_start(text: &[u8], at: usize) -> Option<usize>
+    ensures { result ≡ author_start text.now at }
 {
-    let Place::At(end) = spaces_at(text, at) else {
-        return Place::Nowhere;
-    };
-    if byte_at(text, end, b',') {
-        if at + 1 < end {
-            return Place::At(end - 1);
-        }
-        return Place::Nowhere;
+    let end = spaces_at(text, at)?;
+    if !byte_at(text, end, b',') {
+        return Some(end);
     }
-    Place::At(end)
+    if at + 1 < end { Some(end - 1) } else { None }
 }
 
 // How many bytes the author's character at `at` has; 0 if none stands there, or one that the reading bars. Most bytes of an author are letters, and no
-// ASCII byte behind the `,` is barred in any reading.
+// ASCII byte behind the `,` is barred in any reading. A number and no Option, as `char_len` in the specs.
+#[tactic(auto, using(crate::proofs::FieldLaws::len_past, crate::proofs::FieldLaws::len_char, crate::proofs::FieldLaws::len_other, crate::proofs::FieldLaws::len_one))]
 pub fn author_len(reading: Reading, text: &[u8], at: usize) -> usize
     ensures { result ≡ author_len (named reading).bars_author text.now at }
 {
-    if text.len() <= at {
-        return 0;
+    match text.get(at) {
+        Some(c) if b',' < *c && *c < 128 => 1,
+        Some(c) if is_author_byte(*c) && !reading.bars_author(*c) => char_len(text, at),
+        _ => 0,
     }
-    let c = text[at];
-    if (b',' < c) & (c < 128) {
-        return 1;
-    }
-    if is_author_byte(c) & !reading.bars_author(c) {
-        return char_len(text, at);
-    }
-    0
 }

@@ -10,7 +10,6 @@ mod state;
 use basics::Span;
 use byte_rules::Reading;
 pub use list::{PARENTHETICAL_WIDTH, parentheticals};
-use records::Refusal;
 
 #[derive(Clone, Copy)]
 pub enum Parenthetical {
@@ -41,25 +40,10 @@ pub struct ParentheticalState {
     pub end: usize,
 }
 
-// What the maker of a fresh state answers.
-#[derive(Clone, Copy)]
-pub enum Started {
-    Ready(ParentheticalState),
-    Refused(Refusal),
-}
-
-// What a step answers: the next parenthetical, or that there is none.
-#[derive(Clone, Copy)]
-pub enum NextParenthetical {
-    Next(Found),
-    End,
-    Refused(Refusal),
-}
-
-// A step, and the state after it.
+// What a step answers: the next parenthetical, if there is one, and the state after it.
 #[derive(Clone, Copy)]
 pub struct Stepped {
-    pub step: NextParenthetical,
+    pub found: Option<Found>,
     pub state: ParentheticalState,
 }
 
@@ -68,10 +52,4 @@ pub struct Stepped {
 pub struct Discouragements {
     pub modification_discouraged: bool,
     pub usage_discouraged: bool,
-}
-
-#[derive(Clone, Copy)]
-pub enum Flagged {
-    Flags(Discouragements),
-    Refused(Refusal),
 }

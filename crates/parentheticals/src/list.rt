@@ -6,51 +6,30 @@ ghost use Rattle.records.specs.Records.{laid, wrote_of};
 ghost use Rattle.parentheticals.specs.Records.{kind_of, author_of, date_of, record_of, record_width, parentheticals_answer, parentheticals_left};
 ghost use Rattle.parentheticals.specs.Inner.{InWords};
 
-use crate::matching::{Search, next_match};
+use crate::matching::next_match;
 use crate::{Found, Parenthetical};
 use basics::Span;
 use byte_rules::Reading;
-use records::{Checked, Filled, Wrote, check_span, lay};
+use records::{FillError, Wrote, check_span, fits, lay};
 
 // How many words a parenthetical's record has: kind, then start and end of the whole, the author and the date.
 pub const PARENTHETICAL_WIDTH: usize = 7;
 
-// Kinds 1 to 5 in the enum's order.
-fn kind_of(item: Parenthetical) -> u32
-    ensures { result ≡ kind_of item }
-{
-    match item {
-        Parenthetical::ContributedBy { author: _, date: _ } => 1,
-        Parenthetical::RevisedBy { author: _, date: _ } => 2,
-        Parenthetical::ProofShortenedBy { author: _, date: _ } => 3,
-        Parenthetical::ProofModificationDiscouraged => 4,
-        Parenthetical::NewUsageDiscouraged => 5,
-    }
-}
+// What a notice's record has for the author and the date.
+const ZEROS: Span = Span { start: 0, end: 0 };
 
-// The author; zeros for a notice.
-fn author_of(item: Parenthetical) -> Span
-    ensures { result ≡ author_of item }
-{
-    match item {
-        Parenthetical::ContributedBy { author, date: _ } => author,
-        Parenthetical::RevisedBy { author, date: _ } => author,
-        Parenthetical::ProofShortenedBy { author, date: _ } => author,
-        Parenthetical::ProofModificationDiscouraged => Span { start: 0, end: 0 },
-        Parenthetical::NewUsageDiscouraged => Span { start: 0, end: 0 },
-    }
-}
-
-// The date; zeros for a notice.
-fn date_of(item: Parenthetical) -> Span
-    ensures { result ≡ date_of item }
-{
-    match item {
-        Parenthetical::ContributedBy { author: _, date } => date,
-        Parenthetical::RevisedBy { author: _, date } => date,
-        Parenthetical::ProofShortenedBy { author: _, date } => date,
-        Parenthetical::ProofModificationDiscouraged => Span { start: 0, end: 0 },
-        Parenthetical::NewUsageDiscouraged => Span { start: 0, end: 0 },
+impl Parenthetical {
+    // Kind 1 to 5 in the enum's order, the author and the date; zeros for a notice.
+    pub fn parts(self) -> (u32, Span, Span)
+        ensures { result ≡ (kind_of self, author_of self, date_of self) }
+    {
+        match self {
+            Parenthetical::ContributedBy { author, date } => (1, author, date),
+            Parenthetical::RevisedBy { author, date } => (2, author, date),
+            Parenthetical::ProofShortenedBy { author, date } => (3, author, date),
+            Parenthetical::ProofModificationDiscouraged => (4, ZEROS, ZEROS),
+            Parenthetical::NewUsageDiscouraged => (5, ZEROS, ZEROS),
+        }
     }
 }
 
@@ -61,13 +40,11 @@ fn lay_found(room: &mut [u32], found: Found) -> Wrote
     ensures left { room.new ≡ laid record_width (record_of found ∷ []) room.old }
 {
     let whole = found.whole;
-    let item = found.item;
-    let author = author_of(item);
-    let date = date_of(item);
+    let (kind, author, date) = found.item.parts();
     lay(
         room,
         &[
-            kind_of(item),
+            kind,
             whole.start as u32,
             whole.end as u32,
             author.start as u32,
@@ -79,34 +56,24 @@ fn lay_found(room: &mut [u32], found: Found) -> Wrote
 }
 
 // The parentheticals of the span from `start` to `end`, in the reading that is named, as records in `out`.
+#[tactic(auto, unfolding(records::specs::Records::list_answer, records::specs::Records::list_left))]
 pub fn parentheticals(
     reading: Reading,
     buf: &[u8],
     start: usize,
     end: usize,
     out: &mut [u32],
-) -> Filled
+) -> Result<usize, FillError>
     ensures answer { filled_answer result ≡ parentheticals_answer (named reading) buf.now start end (length out.old) }
     ensures left { out.new ≡ parentheticals_left (named reading) buf.now start end out.old }
 {
-    if let Checked::Refused(r) = check_span(buf.len(), start, end) {
-        return Filled::Refused(r);
-    }
+    check_span(buf.len(), start, end)?;
     let mut from = start;
-    let mut at: usize = 0;
-    let mut n: usize = 0;
-    loop {
-        let Search::Hit(found) = next_match(reading, &buf[..end], from) else {
-            break;
-        };
-        let wrote = lay_found(&mut out[at..], found);
-        at += wrote.words;
-        n += wrote.count;
+    let mut wrote = Wrote::NOTHING;
+    while let Some(found) = next_match(reading, &buf[..end], from) {
+        let laid = lay_found(&mut out[wrote.words..], found);
+        wrote = wrote.then(laid);
         from = found.whole.end;
     }
-    if n <= out.len() / PARENTHETICAL_WIDTH {
-        Filled::Done(n)
-    } else {
-        Filled::Short(n)
-    }
+    fits(wrote.count, out.len() / PARENTHETICAL_WIDTH)
 }

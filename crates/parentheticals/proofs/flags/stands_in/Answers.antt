@@ -1,22 +1,23 @@
--- `flags::stands_in` meets its contract: the notice stands from here on where it stands from the start.
+-- `flags::stands_in` meets its contract.
 -- Assumes nothing.
-use mathlib.Core.Path.{refl, sym, ap, ◌∙◌}
-use Rattle.parentheticals.specs.Inner.{place_of}
-use Rattle.parentheticals.proofs.Candidates.{stands_none, stands_miss, stands_hit}
+use mathlib.Core.Path.{◌∙◌, refl}
+use mathlib.Core.List.{◌∷◌}
+use Prim.Native.Nat.{◌-◌}
+use lib.ListN.{length}
+use Rattle.std.specs.Prelude.{is_some}
+use Rattle.std.proofs.Common.{rules}
+use Rattle.std.proofs.lemmas.Iterator.{YieldsList-from_range}
+use Rattle.std.proofs.lemmas.Iterator.Search.{any_from_yields_List}
+use Rattle.scans.specs.Marks.{lparen}
+use Rattle.parentheticals.specs.Fields.{phrase_at}
+use Rattle.parentheticals.specs.Matching.{stands_in}
+use Rattle.parentheticals.proofs.Candidates.{any_is}
 use Rattle.parentheticals.proofs.flags.stands_in.Goals as goal
 
-pub loop-i-init : goal.loop-i-init
-loop-i-init c = refl
-
-pub returns-in-At : goal.returns-in-At
-returns-in-At c =
-    let stands = sym c.opened_at.ensures ∙ ap place_of c.in-At.is in
-    sym (stands_hit _ _ _ c.loop-i-test.true _ stands) ∙ c.loop-i.invariant
-
-pub loop-i-preserved : goal.loop-i-preserved
-loop-i-preserved c =
-    let none_here = sym c.opened_at.ensures ∙ ap place_of c.in_default.is in
-    sym (stands_miss _ _ _ c.loop-i-test.true none_here) ∙ c.loop-i.invariant
-
 pub returns : goal.returns
-returns c = sym (stands_none _ _ _ c.loop-i-test.false) ∙ c.loop-i.invariant
+unfolding stands_in
+returns c =
+    let s = c.args.text.now in
+    let w = lparen ∷ c.args.words.now in
+    any_from_yields_List (λ i. is_some (phrase_at w s i)) _ _ _ c.any.ensures.ran (YieldsList-from_range 0 (length s) (length s - 0) refl refl) (λ x b q k. search rules)
+    ∙ any_is (phrase_at w s) (length s - 0) 0

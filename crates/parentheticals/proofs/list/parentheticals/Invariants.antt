@@ -7,7 +7,7 @@ use Rattle.parentheticals.proofs.Listing.{Going}
 use Rattle.parentheticals.proofs.list.parentheticals.Given as goal
 
 abbrev pub invariant-loop-found : goal.invariant-loop-found
-invariant-loop-found l = Going (named l.reading) l.buf l.start l.end l.initial.out l.out l.from l.at l.n
+invariant-loop-found l = Going (named l.reading) l.buf l.start l.end l.initial.out l.out l.from l.wrote.words l.wrote.count
 
 abbrev pub decreases-loop-found : goal.decreases-loop-found
 decreases-loop-found l = l.end - l.from
