@@ -11,8 +11,7 @@ use Rattle.basics.proofs.Laws.{both_none}
 use Rattle.records.specs.Answer.{span_refusal}
 use Rattle.name_table.specs.Table.{table_refusal}
 use Rattle.name_table.specs.Search.{entry_of}
-use Rattle.name_table.specs.declared.Entry.{Entry}
-use Rattle.name_table.specs.declared.Entry.TheVariants.{At, Nothing}
+use Rattle.std.specs.Prelude.{Option as Maybe, Some, None}
 use Rattle.name_table.proofs.Laws.{entry_found, entry_is}
 use Rattle.comment_parser.specs.Item.{span}
 use Rattle.comment_parser.specs.Events.{events_of}
@@ -24,7 +23,7 @@ use Rattle.links.specs.Exactly.{ListedExactly}
 module _ (buf bytes ends : List ℕ) (a e k : ℕ) where
   -- the label's name has the record's entry
   abbrev HasEntry : Type 0
-  HasEntry = entry_of bytes ends (name_of buf a e) ≡ At k
+  HasEntry = entry_of bytes ends (name_of buf a e) ≡ Some k
 
   -- ---- from a record to its Label
 
@@ -32,14 +31,14 @@ module _ (buf bytes ends : List ℕ) (a e k : ℕ) where
   abbrev HasSpan : CommentItem → Type 0
   HasSpan i = (tilde : ℕ) × (Label tilde (span a e) ≡ i)
 
-  from_link : (t b d : ℕ) (x : Entry) → entry_of bytes ends (name_of buf b d) ≡ x → In (a ∷ e ∷ k ∷ []) (link_to b d x) → HasSpan (Label t (span b d)) × HasEntry
-  from_link t b d (At m) q h =
+  from_link : (t b d : ℕ) (x : Maybe ℕ) → entry_of bytes ends (name_of buf b d) ≡ x → In (a ∷ e ∷ k ∷ []) (link_to b d x) → HasSpan (Label t (span b d)) × HasEntry
+  from_link t b d (Some m) q h =
       let same = Memᴰ.eq_of_singleton h in
       let same_a : a ≡ b = cc in
       let same_e : e ≡ d = cc in
       let same_k : k ≡ m = cc in
       ((t, rw (same_a, same_e)), rw (same_a, same_e, same_k) q)
-  from_link t b d Nothing q h = absurd (Memᴰ.not-nil h)
+  from_link t b d None q h = absurd (Memᴰ.not-nil h)
 
   from_item : (i : CommentItem) → In (a ∷ e ∷ k ∷ []) (item_links buf bytes ends i) → HasSpan i × HasEntry
   unfolding label_links

@@ -1,5 +1,5 @@
 -- The links of a span: one record for each Label event whose unescaped text is found in the table of labels, in event order.
-use Rattle.std.specs.Prelude.{ℕ, List, [], ◌∷◌, ◌++◌, length}
+use Rattle.std.specs.Prelude.{ℕ, List, [], ◌∷◌, ◌++◌, length, Option as Maybe, Some, None}
 use Rattle.std.proofs.Math.Option.{Option}
 use Rattle.basics.specs.Choice.{or_else}
 use Rattle.byte_rules.specs.Reading.{Reading}
@@ -9,8 +9,6 @@ use Rattle.unescape.specs.Unescape.{is_escape, unescaped, part}
 use Rattle.unescape.specs.declared.Escape.TheVariants as escape
 use Rattle.name_table.specs.Table.{table_refusal}
 use Rattle.name_table.specs.Search.{entry_of}
-use Rattle.name_table.specs.declared.Entry.{Entry}
-use Rattle.name_table.specs.declared.Entry.TheVariants.{At, Nothing}
 use Rattle.comment_parser.specs.Events.{events_of}
 use Rattle.comment_parser.specs.declared.CommentItem.{CommentItem}
 use Rattle.comment_parser.specs.declared.CommentItem.TheVariants.{Text, LineBreak, StartMathMode, EndMathMode, MathToken, Label, Url}
@@ -25,9 +23,9 @@ abbrev pub name_of : List ℕ → ℕ → ℕ → List ℕ
 name_of buf a e = unescaped (is_escape escape.Label) (part buf a e)
 
 -- start and end of the label, and its name's entry; no record where the name is not there
-abbrev pub link_to : ℕ → ℕ → Entry → List (List ℕ)
-link_to a e (At k) = (a ∷ e ∷ k ∷ []) ∷ []
-link_to a e Nothing = []
+abbrev pub link_to : ℕ → ℕ → Maybe ℕ → List (List ℕ)
+link_to a e (Some k) = (a ∷ e ∷ k ∷ []) ∷ []
+link_to a e None = []
 
 -- the table of labels is lent alone, by its bytes and ends
 module _ (buf bytes ends : List ℕ) where

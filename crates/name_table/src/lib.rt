@@ -8,50 +8,29 @@ mod searching;
 ghost use Rattle.std.specs.Prelude.{◌≡◌};
 ghost use Rattle.name_table.specs.Lookup.{known_answer, lookup_answer};
 
-pub use checking::check_table;
-use records::{Checked, Refusal};
-pub use searching::search;
+use records::Refusal;
 use unescape::Escape;
 
-// How a text spells a name: as it stands, or with escapes.
+// A table as it is lent. Entry i's name ends at `ends[i]`, and starts where the one before ends.
+#[derive(Clone, Copy)]
+pub struct Table<'a> {
+    pub bytes: &'a [u8],
+    pub ends: &'a [u32],
+}
+
+// How a text spells a name: as it stands, or with escapes. No Option, since a plain text is spelled too.
 #[derive(Clone, Copy)]
 pub enum Spelling {
     Plain,
     Escaped(Escape),
 }
 
-// How a name stands to another.
-#[derive(Clone, Copy)]
-pub enum Order {
-    Less,
-    Same,
-    More,
-}
-
-// The number of an entry, or that there is none.
-#[derive(Clone, Copy)]
-pub enum Entry {
-    At(usize),
-    Nothing,
-}
-
-// The number of a name's entry in a table that is lent alone, or that it is not there, or that table's refusal.
-#[derive(Clone, Copy)]
-pub enum Known {
-    At(usize),
-    Nothing,
-    Refused(Refusal),
-}
-
-// Looks the name up. A table lent alone is table 1.
-pub fn lookup(bytes: &[u8], ends: &[u32], name: &[u8]) -> Known
-    ensures { known_answer result ≡ lookup_answer bytes.now ends.now name.now }
-{
-    if let Checked::Refused(why) = check_table(1, bytes, ends) {
-        return Known::Refused(why);
-    }
-    match search(bytes, ends, Spelling::Plain, name) {
-        Entry::At(entry) => Known::At(entry),
-        Entry::Nothing => Known::Nothing,
+impl Table<'_> {
+    // The name's entry, if one has it. A table lent alone is table 1.
+    pub fn lookup(self, name: &[u8]) -> Result<Option<usize>, Refusal>
+        ensures { known_answer result ≡ lookup_answer self.entry.bytes.now self.entry.ends.now name.now }
+    {
+        self.check(1)?;
+        Ok(self.search(Spelling::Plain, name))
     }
 }

@@ -3,30 +3,27 @@ ghost use Rattle.std.specs.Prelude.{◌≡◌};
 ghost use Rattle.name_table.specs.Spelling.{spelled};
 ghost use Rattle.name_table.specs.Search.{searched};
 
-use crate::checking::name_at;
 use crate::ordering::{compare, plainly};
-use crate::{Entry, Order, Spelling};
+use crate::{Spelling, Table};
+use std::cmp::Ordering;
 
-// The entry of the name that the text spells, by halving.
-pub fn search(bytes: &[u8], ends: &[u32], how: Spelling, text: &[u8]) -> Entry
-    ensures { result ≡ searched bytes.now ends.now (spelled how text.now) }
-{
-    let how = plainly(how, text);
-    let mut lo = 0;
-    let mut hi = ends.len();
-    while lo < hi {
-        let mid = lo + (hi - lo) / 2;
-        match compare(name_at(bytes, ends, mid), how, text) {
-            Order::Less => {
-                lo = mid + 1;
-            }
-            Order::Same => {
-                return Entry::At(mid);
-            }
-            Order::More => {
-                hi = mid;
+impl Table<'_> {
+    // The entry of the name that the text spells, by halving. How it spells is a parameter of its own: only a search asks both.
+    // The library's searches over `ends` tell of an entry its end alone, and where a name starts is the end before it.
+    pub fn search(self, how: Spelling, text: &[u8]) -> Option<usize>
+        ensures { result ≡ searched self.entry.bytes.now self.entry.ends.now (spelled how text.now) }
+    {
+        let how = plainly(how, text);
+        let mut lo = 0;
+        let mut hi = self.ends.len();
+        while lo < hi {
+            let mid = lo + (hi - lo) / 2;
+            match compare(self.name_at(mid), how, text) {
+                Ordering::Less => lo = mid + 1,
+                Ordering::Equal => return Some(mid),
+                Ordering::Greater => hi = mid,
             }
         }
+        None
     }
-    Entry::Nothing
 }

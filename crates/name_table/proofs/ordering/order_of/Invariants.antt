@@ -1,6 +1,5 @@
--- `name_table::ordering::order_of` meets its contract. The loop's invariant: the order of what is left of both names is their order.
+-- `order_of` meets its contract. The loop's invariant: the order of what is left of both names is their order.
 -- Assumes nothing.
-use Prim.Native.Nat.{◌-◌}
 use mathlib.Core.Path.{◌≡◌}
 use lib.ListN.{drop}
 use Rattle.name_table.specs.Order.{order_of}
@@ -8,6 +7,3 @@ use Rattle.name_table.proofs.ordering.order_of.Given as goal
 
 abbrev pub invariant-loop-k : goal.invariant-loop-k
 invariant-loop-k l = order_of (drop l.k l.name) (drop l.k l.other) ≡ order_of l.name l.other
-
-abbrev pub decreases-loop-k : goal.decreases-loop-k
-decreases-loop-k l = l.n - l.k
