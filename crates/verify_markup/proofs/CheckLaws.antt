@@ -2,7 +2,9 @@
 -- Assumes nothing.
 use Prim.Native.Nat.{ℕ}
 use mathlib.Core.Path.{◌≡◌, refl, ap, fun_ext}
-use mathlib.Core.Option.{none}
+use mathlib.Core.Option.{Option, none}
+use Rattle.basics.specs.Choice.{or_else}
+use Rattle.records.specs.Answer.{Answer}
 use Rattle.basics.proofs.Laws.{both_none}
 use Rattle.name_table.specs.Search.{entry_of, searched}
 use Rattle.name_table.proofs.Laws.{searched_good}
@@ -16,6 +18,10 @@ tags_good : (b : Bibliography) → none ≡ bibliography_refusal b → tags_of s
 tags_good (lent t) h = ap looked_up (table_good 3 t h)
 tags_good not_lent h = refl
 tags_good no_tag_lookup h = refl
+
+-- one table is good, and what is found is found in those after it
+pub go_on : {r x y : Option Answer} → none ≡ x → r ≡ y → r ≡ or_else x y
+go_on {r} {x} {y} e f = rw (← e) f
 
 -- over good tables every name is looked up as the walk does
 pub names_good : (t : Tables) → none ≡ tables_refusal t → names_by searched t ≡ names_by entry_of t

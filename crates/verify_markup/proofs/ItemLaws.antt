@@ -6,7 +6,6 @@ use mathlib.Core.Bool.{Bool, true, false, ◌||◌}
 use mathlib.Core.List.{List, [], ◌++◌}
 use native.Mathlib.Omega.{arith}
 use lib.Dec.{eqb}
-use borrow.Author.Tests.{ne_eqb}
 use Rattle.look.specs.Look.{byte_at}
 use Rattle.scans.specs.Marks.{tick, tilde}
 use Rattle.unescape.specs.Unescape.{is_escape, unescaped, part}
@@ -15,7 +14,7 @@ use Rattle.name_table.specs.Search.{Lookup, is_missing}
 use Rattle.comment_parser.specs.Item.{placed_of}
 use Rattle.comment_parser.specs.declared.CommentItem.{CommentItem}
 use Rattle.comment_parser.specs.declared.CommentItem.TheVariants.{Text, LineBreak, StartMathMode, EndMathMode, MathToken, Label, Url, StartHtml, EndHtml, StartSubscript, EndSubscript, StartItalic, EndItalic, BibTag}
-use Rattle.verify_markup.specs.Diag.{when, nonblank_at, nonblank_before, space_before, space_after, unknown_label, bib_escape}
+use Rattle.verify_markup.specs.Diag.{when, nonblank_at, nonblank_before, space_before, space_after, bib_escape}
 use Rattle.verify_markup.specs.Items.{Tags, Names, no_tag, token_diags, tilde_diags, link_diags, name_diags, label_diags, bib_escapes, tag_diags, item_diags}
 use Rattle.verify_markup.proofs.DiagLaws.{Few, few_append, few_more, few_none, few_when}
 use Rattle.verify_markup.proofs.TextLaws.{few_written}
@@ -42,12 +41,6 @@ module _ (buf : List ℕ) where
     pub few_token : (symbol : Lookup) → Few 1 (token_diags buf symbol a e)
     unfolding token_diags
     few_token symbol = few_when (is_missing (symbol (unescaped (is_escape escape.Math) (part buf a e)))) _ refl
-
-    -- a label that is not empty, by what was found of its name
-    pub name_by : (label : Lookup) (i : ℕ) (unknown : Bool) → (a ≡ e → ⊥) → unknown ≡ is_missing (label (unescaped (is_escape escape.Label) (part buf a e)))
-        → name_diags buf label i a e ≡ when unknown (unknown_label a e)
-    unfolding name_diags
-    name_by label i unknown h is = rw (name_diags, ne_eqb a e h, is)
 
     pub few_name : (label : Lookup) (i : ℕ) → Few 1 (name_diags buf label i a e)
     unfolding name_diags

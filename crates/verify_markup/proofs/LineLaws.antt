@@ -2,6 +2,7 @@
 -- Assumes nothing.
 use Prim.Native.Nat.{ℕ, zero, suc, ◌+◌, ◌-◌, ◌≤◌}
 use mathlib.Core.Path.{◌≡◌, refl}
+use Rattle.std.specs.Prelude.{Option, Some, None}
 use mathlib.Core.Bool.{Bool, true, false, cond, ◌||◌}
 use mathlib.Core.List.Memᴰ
 use mathlib.Core.List.{List, [], ◌∷◌, ◌++◌}
@@ -9,10 +10,9 @@ use native.Mathlib.Omega.{arith}
 use lib.Dec.{ltb, eqb}
 use lib.ListN.{length, take}
 use lib.Seq.{length-take-le}
-use borrow.Author.Tests.{ltb-true, eqb-false}
+use borrow.Author.Tests.{eqb-false}
+use Rattle.basics.specs.declared.Span.{Span}
 use Rattle.basics.specs.Member.{In}
-use Rattle.basics.specs.declared.Place.{Place}
-use Rattle.basics.specs.declared.Place.TheVariants.{At, Nowhere}
 use Rattle.basics.proofs.Laws.{both, either}
 use Rattle.byte_rules.specs.Reading.{Reading}
 use Rattle.look.specs.Look.{byte_at}
@@ -33,14 +33,14 @@ use Rattle.comment_parser.specs.declared.CommentItem.{CommentItem}
 use Rattle.comment_parser.specs.declared.CommentItem.TheVariants.{Text, LineBreak, StartMathMode, EndMathMode, MathToken, Label, Url, StartHtml, EndHtml, StartSubscript, EndSubscript, StartItalic, EndItalic, BibTag}
 use Rattle.comment_parser.proofs.Reached.{every_within}
 use Rattle.events.proofs.Laws.{event_fits}
-use Rattle.verify_markup.specs.Diag.{diag_width, diag, when, nonblank_at, nonblank_before, space_before, space_after, uninterpreted_escape, empty_label, unknown_label, unclosed_math_markup, unclosed_html, bib_escape}
+use Rattle.verify_markup.specs.Diag.{diag_width, diag, when, of_some, uninterpreted_html, nonblank_at, nonblank_before, space_before, space_after, uninterpreted_escape, empty_label, unknown_label, unclosed_math_markup, unclosed_html, bib_escape}
 use Rattle.verify_markup.specs.Texts.{is_reported, lone_at, lone_from, html_from, html_in, written}
 use Rattle.verify_markup.specs.Items.{Names, Tags, no_tag, token_diags, tilde_diags, link_diags, name_diags, label_diags, bib_escapes, tag_diags, item_diags}
 use Rattle.verify_markup.specs.List.{is_open, closed, modes_after, unclosed, last_diags, diags_from, diagnostics}
 use Rattle.verify_markup.specs.Bounds.{OpenedBy}
 use Rattle.verify_markup.specs.declared.Modes.{Modes}
 use Rattle.verify_markup.proofs.DiagLaws.{wide_append}
-use Rattle.verify_markup.proofs.TextLaws.{html_within}
+use Rattle.verify_markup.proofs.TextLaws.{MarkWithin, html_within}
 use Rattle.verify_markup.proofs.ItemLaws.{few_item}
 use Rattle.verify_markup.proofs.ListLaws.{OpenedBoth, opened_after, few_last}
 
@@ -68,11 +68,12 @@ module _ (buf : List ℕ) (short : length buf ≤ longest) where
     fit_html : AllFit buf (html_in buf a e)
     unfolding html_in
     fit_html =
-        let s = take e buf in
-        let m = html_from s (e - a) a in
-        let long : length s ≡ e = length-take-le e buf inside in
-        fit_when (ltb m.start m.end) 3 m.start m.end 0
-        (λ t. fits_inside buf m.start (omega (arith, ltb-true m.start m.end t, html_within s (e - a) a (omega arith))) short)
+        let long : length (take e buf) ≡ e = length-take-le e buf inside in
+        go (html_from (take e buf) (e - a) a) (html_within (take e buf) (e - a) a (omega arith))
+      where
+        go : (m : Option Span) → MarkWithin (take e buf) m → AllFit buf (of_some (λ x. uninterpreted_html x.start x.end) m)
+        go (Some m) w = (fits_inside buf m.start (omega (arith, w.0, length-take-le e buf inside)) short, tt)
+        go None w = tt
 
     fit_written : (kind : Escape) → AllFit buf (written buf kind a e)
     unfolding written
@@ -142,9 +143,9 @@ module _ (buf : List ℕ) (short : length buf ≤ longest) where
 
   -- ---- the list
 
-  fit_unclosed : (kind end : ℕ) (p : Place) → OpenedBy (Fits buf) p → AllFit buf (unclosed (λ i e. diag kind i e 0) end p)
-  fit_unclosed kind end (At i) f = (f, tt)
-  fit_unclosed kind end Nowhere f = tt
+  fit_unclosed : (kind end : ℕ) (p : Option ℕ) → OpenedBy (Fits buf) p → AllFit buf (unclosed (λ i e. diag kind i e 0) end p)
+  fit_unclosed kind end (Some i) f = (f, tt)
+  fit_unclosed kind end None f = tt
 
   fit_last : (end : ℕ) (m : Modes) → OpenedBoth (Fits buf) m → AllFit buf (last_diags end m)
   unfolding last_diags
@@ -167,7 +168,7 @@ module _ (buf : List ℕ) (short : length buf ≤ longest) where
 
 -- and each has the width of a record
 module _ (buf : List ℕ) (end : ℕ) (n : Names) where
-  wide_diags : (m : Modes) (is : List CommentItem) → Wide diag_width (diags_from buf end n m is)
+  pub wide_diags : (m : Modes) (is : List CommentItem) → Wide diag_width (diags_from buf end n m is)
   unfolding diags_from
   wide_diags m [] = (few_last end m).wide
   wide_diags m (i ∷ is) = wide_append (item_diags buf n (is_open m.html) i) (diags_from buf end n (modes_after m i) is) (few_item buf n (is_open m.html) i).wide (wide_diags (modes_after m i) is)

@@ -2,6 +2,7 @@
 -- Assumes nothing.
 use Prim.Native.Nat.{ℕ, ◌+◌, ◌-◌, ◌≤◌, ◌<◌}
 use mathlib.Core.Path.{◌≡◌, sym, ◌∙◌}
+use Rattle.std.specs.Prelude.{None}
 use mathlib.Core.Bool.{false}
 use mathlib.Core.List.{List}
 use native.Mathlib.Omega.{arith}
@@ -20,7 +21,7 @@ use Rattle.unescape.specs.declared.Escape.TheVariants.{Text, Label, Math}
 use Rattle.unescape.proofs.Laws.{step_plain}
 use Rattle.unescape.proofs.Runs.{no_escape}
 use Rattle.verify_markup.specs.Texts.{is_reported, is_letter, folded_at, html_len, html_from, lone_at, lone_from}
-use Rattle.verify_markup.proofs.TextLaws.{lone_on, lone_ends, html_on}
+use Rattle.verify_markup.proofs.TextLaws.{lone_on, lone_ends, html_on, html_over}
 
 -- ---- escapes: what is reported is an escape
 
@@ -67,10 +68,13 @@ module _ (s : List ℕ) where
     unfolding is_letter
     no_letter = holds_in (is_letter less) s k h ∙ upper_not less (get_or s k 0) (omega arith) (plain_byte s k h m).not_2
 
-    plain_html : html_len s k ≡ 0
+    plain_html : None ≡ html_len s k
     unfolding html_len folded_at
     plain_html = rw (html_len, no_letter)
 
   -- no HTML mark begins among plain bytes
-  pub html_skip : (i p : ℕ) → p ≡ plain_end s i → i ≤ length s → html_from s (length s - i) i ≡ html_from s (length s - p) p
-  html_skip i p z h = rw z (run_keeps s (λ k. html_from s (length s - k) k) (λ k l m. html_on s k l (plain_html k l m)) i h)
+  pub html_skip : (i p : ℕ) → p ≡ plain_end s i → html_from s (length s - i) i ≡ html_from s (length s - p) p
+  html_skip i p z =
+      by_less (length s) i
+      (λ h. let y : p ≡ length s = z ∙ scan_end (plain_step s) (length s) i (omega arith) in sym (html_over s i (omega arith)) ∙ html_over s p (omega arith))
+      (λ h. rw z (run_keeps s (λ k. html_from s (length s - k) k) (λ k l m. html_on s k l (plain_html k l m)) i h))

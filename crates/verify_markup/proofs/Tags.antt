@@ -2,6 +2,7 @@
 -- Assumes nothing.
 use Prim.Native.Nat.{ℕ, zero, suc, ◌+◌, ◌-◌}
 use mathlib.Core.Path.{◌≡◌, refl, sym, ap, ◌∙◌, fun_ext}
+use Rattle.std.specs.Prelude.{Option, Some, None}
 use mathlib.Core.Bool.{Bool, true, false, cond, ◌||◌}
 use mathlib.Core.List.Memᴰ
 use mathlib.Core.List.{List, [], ◌∷◌, ◌++◌}
@@ -10,9 +11,8 @@ use native.Mathlib.Omega.{arith}
 use lib.Dec.{ltb, eqb}
 use lib.ListN.{take}
 use borrow.Author.Tests.{ne_eqb}
+use Rattle.basics.specs.declared.Span.{Span}
 use Rattle.basics.specs.Member.{In}
-use Rattle.basics.specs.declared.Place.{Place}
-use Rattle.basics.specs.declared.Place.TheVariants.{At, Nowhere}
 use Rattle.basics.proofs.Laws.{differ}
 use Rattle.look.specs.Look.{byte_at}
 use Rattle.scans.specs.Marks.{tick, tilde}
@@ -26,7 +26,7 @@ use Rattle.comment_parser.specs.Item.{span}
 use Rattle.comment_parser.specs.Events.{events_of}
 use Rattle.comment_parser.specs.declared.CommentItem.{CommentItem}
 use Rattle.comment_parser.specs.declared.CommentItem.TheVariants.{Text, LineBreak, StartMathMode, EndMathMode, MathToken, Label, Url, StartHtml, EndHtml, StartSubscript, EndSubscript, StartItalic, EndItalic, BibTag}
-use Rattle.verify_markup.specs.Diag.{when, nonblank_at, nonblank_before, space_before, space_after, uninterpreted_escape, empty_label, unknown_label, undefined_bib_tag, unclosed_math_markup, unclosed_html, bib_escape}
+use Rattle.verify_markup.specs.Diag.{when, of_some, nonblank_at, nonblank_before, space_before, space_after, uninterpreted_escape, uninterpreted_html, empty_label, unknown_label, undefined_bib_tag, unclosed_math_markup, unclosed_html, bib_escape}
 use Rattle.verify_markup.specs.Texts.{lone_at, lone_from, html_from, html_in, written}
 use Rattle.verify_markup.specs.Items.{Names, looked_up, not_looked_up, no_tag, token_diags, tilde_diags, link_diags, name_diags, label_diags, bib_escapes, tag_diags, item_diags}
 use Rattle.verify_markup.specs.List.{is_open, closed, modes_after, unclosed, last_diags, diags_from, diagnostics}
@@ -110,7 +110,11 @@ module _ (buf : List ℕ) where
 
   others_html : (a e : ℕ) → Others (html_in buf a e)
   unfolding html_in
-  others_html a e = let m = html_from (take e buf) (e - a) a in others_when (ltb m.start m.end) _ (λ k. omega (arith, k))
+  others_html a e = go (html_from (take e buf) (e - a) a)
+    where
+      go : (m : Option Span) → Others (of_some (λ x. uninterpreted_html x.start x.end) m)
+      go (Some m) = others_when true (uninterpreted_html m.start m.end) (λ k. omega (arith, k))
+      go None = others_none
 
   others_written : (kind : Escape) (a e : ℕ) → Others (written buf kind a e)
   unfolding written
@@ -152,9 +156,9 @@ module _ (buf : List ℕ) where
   unfolding last_diags
   others_last end m = others_append (unclosed unclosed_math_markup end m.math) (go unclosed_math_markup (λ i k. omega (arith, k)) m.math) (go unclosed_html (λ i k. omega (arith, k)) m.html)
     where
-      go : (made : ℕ → ℕ → List ℕ) → ((i : ℕ) → kind_of (made i end) ≡ 8 → ⊥) → (p : Place) → Others (unclosed made end p)
-      go made d (At i) = others_when true (made i end) (d i)
-      go made d Nowhere = others_none
+      go : (made : ℕ → ℕ → List ℕ) → ((i : ℕ) → kind_of (made i end) ≡ 8 → ⊥) → (p : Option ℕ) → Others (unclosed made end p)
+      go made d (Some i) = others_when true (made i end) (d i)
+      go made d None = others_none
 
   -- ---- a tag, and any other event
 
@@ -296,4 +300,4 @@ no_eight rd sb se lb le buf start end =
     absurd (differ (let u = f.undefined.missing in cc)))
 
 pub not_looked_at : NotLookedAt
-not_looked_at sb se lb le bb be = refl
+not_looked_at symbols labels = refl

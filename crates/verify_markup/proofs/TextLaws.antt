@@ -2,41 +2,38 @@
 -- Assumes nothing.
 use Prim.Native.Nat.{ℕ, zero, suc, ◌+◌, ◌-◌, ◌≤◌, ◌<◌}
 use mathlib.Core.Path.{◌≡◌, refl, sym, ap, ◌∙◌}
+use Rattle.std.specs.Prelude.{Option, Some, None, MatchOption, IsSomeAnd}
+use Rattle.records.specs.Answer.{longest}
+use Rattle.verify_markup.specs.Words.{FitsIf}
+use Rattle.verify_markup.specs.declared.diagnostic.Diagnostic.{Diagnostic}
+use Rattle.verify_markup.specs.declared.diagnostic.Diagnostic.TheVariants.{UninterpretedHtml}
 use mathlib.Core.Bool.{Bool, true, false, cond, ◌&&◌}
 use mathlib.Core.List.{List, [], ◌∷◌, ◌++◌}
 use native.Mathlib.Decide.{dec_lt}
 use native.Mathlib.Numerals.{add-one}
 use native.Mathlib.Omega.{arith}
-use lib.Dec.{ltb, eqb}
-use lib.ListN.{length, get_or, take, drop, drop_of_length-le}
+use lib.Dec.{eqb}
+use Rattle.std.specs.List.{list_all, zip}
+use lib.ListN.{length, get_or, take, drop, length-drop}
 use lib.Seq.{drop-cons}
-use borrow.Author.Tests.{lt-ltb, le-ltb, eq-eqb, ne_eqb}
+use borrow.Author.Tests.{lt-ltb, le-ltb}
 use Rattle.basics.proofs.Laws.{both}
 use Rattle.byte_rules.specs.Names.{upper}
 use Rattle.look.specs.Look.{holds_at}
-use Rattle.look.proofs.Laws.{holds_in, holds_past, holds_within}
+use Rattle.look.proofs.Laws.{holds_in, holds_within}
 use Rattle.scans.specs.Marks.{open_html, close_html}
 use Rattle.unescape.specs.Unescape.{is_escape, step_at}
 use Rattle.unescape.specs.declared.Escape.{Escape}
 use Rattle.unescape.proofs.Laws.{step_some}
 use Rattle.comment_parser.specs.Item.{span}
 use Rattle.basics.specs.declared.Span.{Span}
-use Rattle.verify_markup.specs.Diag.{when, uninterpreted_escape}
-use Rattle.verify_markup.specs.Texts.{is_reported, is_letter, folded_at, html_len, html_from, lone_at, lone_from, html_in, written}
-use Rattle.verify_markup.proofs.DiagLaws.{Few, few_append, few_none, few_more, few_when}
+use Rattle.verify_markup.specs.Diag.{when, uninterpreted_escape, uninterpreted_html}
+use Rattle.verify_markup.specs.Texts.{is_letter, folded_at, html_len, mark_or, html_from, lone_at, lone_from, html_in, written}
+use Rattle.verify_markup.proofs.DiagLaws.{Few, few_append, few_none, few_more, few_when, few_of_some}
 
 -- ---- lone escapes
 
 module _ (buf : List ℕ) (kind : Escape) where
-  module _ (i : ℕ) where
-    pub lone_in : i < length buf → (is_reported kind (get_or buf i 0) && eqb (step_at (is_escape kind) buf i) 1) ≡ lone_at buf kind i
-    unfolding lone_at
-    lone_in h = rw (holds_in (is_reported kind) buf i h)
-
-    pub lone_past : length buf ≤ i → false ≡ lone_at buf kind i
-    unfolding lone_at
-    lone_past h = rw (holds_past (is_reported kind) buf i h)
-
   module _ (e : ℕ) where
     abbrev step : ℕ → ℕ
     step i = i + step_at (is_escape kind) buf i
@@ -85,30 +82,11 @@ module _ (buf : List ℕ) (kind : Escape) where
 
 -- ---- words in any case
 
+-- a byte of the text and a byte of the word
+abbrev pub is_same : ℕ × ℕ → Bool
+is_same p = eqb (upper p.0) p.1
+
 module _ (s : List ℕ) where
-  pub folded_ends : (p k : ℕ) (w : List ℕ) → length w ≤ k → folded_at s p (drop k w) ≡ true
-  unfolding folded_at
-  folded_ends p k w h = rw (drop_of_length-le w h)
-
-  module _ (p k : ℕ) (w : List ℕ) (h : k < length w) where
-    folded_step : folded_at s p (drop k w) ≡ (holds_at (is_letter (get_or w k 0)) s p && folded_at s (p + 1) (drop (k + 1) w))
-    unfolding folded_at
-    folded_step = ap (folded_at s p) (drop-cons w k 0 h) ∙ ap (λ (n : ℕ). holds_at (is_letter (get_or w k 0)) s p && folded_at s (p + 1) (drop n w)) (sym (add-one k))
-
-    pub folded_past : length s ≤ p → folded_at s p (drop k w) ≡ false
-    folded_past l = folded_step ∙ rw (holds_past (is_letter (get_or w k 0)) s p l)
-
-    module _ (l : p < length s) where
-      letter_is : holds_at (is_letter (get_or w k 0)) s p ≡ eqb (upper (get_or s p 0)) (get_or w k 0)
-      unfolding is_letter
-      letter_is = holds_in (is_letter (get_or w k 0)) s p l
-
-      pub folded_differs : (upper (get_or s p 0) ≡ get_or w k 0 → ⊥) → folded_at s p (drop k w) ≡ false
-      folded_differs n = folded_step ∙ rw (letter_is, ne_eqb (upper (get_or s p 0)) (get_or w k 0) n)
-
-      pub folded_on : upper (get_or s p 0) ≡ get_or w k 0 → folded_at s p (drop k w) ≡ folded_at s (p + 1) (drop (k + 1) w)
-      folded_on n = folded_step ∙ rw (letter_is, eq-eqb (upper (get_or s p 0)) (get_or w k 0) n)
-
   -- a word that stands at i ends within the text
   folded_within : (w : List ℕ) (i : ℕ) → i ≤ length s → folded_at s i w ≡ true → i + length w ≤ length s
   unfolding folded_at
@@ -118,48 +96,84 @@ module _ (s : List ℕ) where
       let a : i < length s = holds_within (is_letter b) s i x.0 in
       omega (arith, folded_within bs (i + 1) (omega arith) x.1)
 
+  -- so it does not stand where fewer bytes are left
+  pub folded_short : (w : List ℕ) (i : ℕ) → i ≤ length s → length (drop i s) < length w → false ≡ folded_at s i w
+  folded_short w i h short = go (folded_at s i w) refl
+    where
+      go : (t : Bool) → folded_at s i w ≡ t → false ≡ t
+      go false e = refl
+      go true e = absurd (omega (arith, folded_within w i h e, length-drop i s, short))
+
+  -- where enough are left it is told by comparing in turn
+  pub folded_zip : (w : List ℕ) (i : ℕ) → length w ≤ length (drop i s) → list_all is_same (zip (drop i s) w) ≡ folded_at s i w
+  unfolding folded_at is_letter
+  folded_zip [] i h = go (drop i s)
+    where
+      go : (l : List ℕ) → list_all is_same (zip l []) ≡ true
+      go [] = refl
+      go (c ∷ cs) = refl
+  folded_zip (b ∷ bs) i h =
+      let inside : i < length s = omega (arith, length-drop i s) in
+      let split : drop i s ≡ get_or s i 0 ∷ drop (i + 1) s = drop-cons s i 0 inside ∙ ap (λ (n : ℕ). get_or s i 0 ∷ drop n s) (sym (add-one i)) in
+      let first : holds_at (is_letter b) s i ≡ eqb (upper (get_or s i 0)) b = holds_in (is_letter b) s i inside in
+      rw (split, first) (ap (λ (t : Bool). eqb (upper (get_or s i 0)) b && t) (folded_zip bs (i + 1) (omega (arith, ap length split, h))))
+
   -- ---- HTML marks
 
-  pub len_within : (i : ℕ) → i ≤ length s → i + html_len s i ≤ length s
+  -- a mark at i, if there is one, ends within the text
+  abbrev pub EndsWithin : ℕ → Option ℕ → Type 0
+  EndsWithin i (Some n) = i + n ≤ length s
+  EndsWithin i None = Unit
+
+  pub len_within : (i : ℕ) → i ≤ length s → EndsWithin i (html_len s i)
   unfolding html_len
   len_within i h = go (folded_at s i open_html) (folded_at s i close_html) refl refl
     where
-      go : (a b : Bool) → folded_at s i open_html ≡ a → folded_at s i close_html ≡ b → i + cond a (length open_html) (cond b (length close_html) 0) ≤ length s
+      go : (a b : Bool) → folded_at s i open_html ≡ a → folded_at s i close_html ≡ b → EndsWithin i (cond a (Some (length open_html)) (cond b (Some (length close_html)) None))
       go true b p q = folded_within open_html i h p
       go false true p q = folded_within close_html i h q
-      go false false p q = omega arith
+      go false false p q = tt
 
   module _ (i : ℕ) (h : i < length s) where
-    html_step : (n : ℕ) → html_len s i ≡ n → html_from s (length s - i) i ≡ cond (eqb n 0) (html_from s (length s - (i + 1)) (i + 1)) (span i (i + n))
+    html_step : (n : Option ℕ) → n ≡ html_len s i → html_from s (length s - i) i ≡ mark_or (html_from s (length s - (i + 1)) (i + 1)) i n
     unfolding html_from
-    html_step n e = let some : length s - i ≡ suc (length s - (i + 1)) = omega arith in rw (some, html_from, e)
+    html_step n e = let some : length s - i ≡ suc (length s - (i + 1)) = omega arith in rw (some, html_from, ← e)
 
-    pub html_here : (n : ℕ) → n ≡ html_len s i → (n ≡ 0 → ⊥) → span i (i + n) ≡ html_from s (length s - i) i
-    html_here n e z = sym (html_step n (sym e) ∙ rw (ne_eqb n 0 z))
+    pub html_here : (n : ℕ) → Some n ≡ html_len s i → Some (span i (i + n)) ≡ html_from s (length s - i) i
+    html_here n e = sym (html_step (Some n) e)
 
-    pub html_on : html_len s i ≡ 0 → html_from s (length s - i) i ≡ html_from s (length s - (i + 1)) (i + 1)
-    html_on e = html_step 0 e
+    pub html_on : None ≡ html_len s i → html_from s (length s - i) i ≡ html_from s (length s - (i + 1)) (i + 1)
+    html_on e = html_step None e
 
-  pub html_over : (i : ℕ) → length s ≤ i → span i i ≡ html_from s (length s - i) i
+  pub html_over : (i : ℕ) → length s ≤ i → None ≡ html_from s (length s - i) i
   unfolding html_from
   html_over i h = let none : length s - i ≡ 0 = omega arith in rw none
 
-  pub html_within : (left i : ℕ) → i + left ≤ length s → ((html_from s left i).start ≤ length s) × ((html_from s left i).end ≤ length s)
-  unfolding html_from
-  html_within zero i h = (omega arith, omega arith)
-  html_within (suc left) i h = go (eqb (html_len s i) 0) (html_within left (i + 1) (omega arith))
-    where
-      InText : Span → Type 0
-      InText m = (m.start ≤ length s) × (m.end ≤ length s)
+  -- a mark that is found from i on lies in the text
+  abbrev pub MarkWithin : Option Span → Type 0
+  MarkWithin (Some m) = (m.start < length s) × (m.end ≤ length s)
+  MarkWithin None = Unit
 
-      go : (b : Bool) → InText (html_from s left (i + 1)) → InText (cond b (html_from s left (i + 1)) (span i (i + html_len s i)))
-      go true ih = ih
-      go false ih = (omega arith, len_within i (omega arith))
+  pub html_within : (left i : ℕ) → i + left ≤ length s → MarkWithin (html_from s left i)
+  unfolding html_from
+  html_within zero i h = tt
+  html_within (suc left) i h = go (html_len s i) (html_within left (i + 1) (omega arith)) (len_within i (omega arith))
+    where
+      go : (n : Option ℕ) → MarkWithin (html_from s left (i + 1)) → EndsWithin i n → MarkWithin (mark_or (html_from s left (i + 1)) i n)
+      go (Some n) ih e = (omega arith, e)
+      go None ih e = ih
+
+-- the code's diagnostic of a mark, if there is one, fits
+pub fits_html : {R : Span → Diagnostic → Type 0} (s : List ℕ) (m : Option Span) (d : Option Diagnostic) → MatchOption m (d ≡ None) (λ x. IsSomeAnd d (R x))
+    → ((x : Span) (y : Diagnostic) → R x y → y ≡ UninterpretedHtml x) → MarkWithin s m → length s ≤ longest → FitsIf d
+fits_html s (Some x) (Some y) h f w short = rw (f x y h) (omega (arith, w, short), omega (arith, w, short))
+fits_html s (Some x) None h f w short = absurd h
+fits_html s None d h f w short = rw h tt
 
 module _ (buf : List ℕ) (a e : ℕ) where
   pub few_html : Few 1 (html_in buf a e)
   unfolding html_in
-  few_html = let m = html_from (take e buf) (e - a) a in few_when (ltb m.start m.end) _ refl
+  few_html = few_of_some (λ m. uninterpreted_html m.start m.end) (λ m. refl) (html_from (take e buf) (e - a) a)
 
   pub few_written : (kind : Escape) → Few (e - a + 1) (written buf kind a e)
   unfolding written

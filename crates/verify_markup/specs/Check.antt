@@ -1,5 +1,5 @@
 -- The comment check: its refusals, and the names of its tables.
-use Rattle.std.specs.Prelude.{ℕ, List, length}
+use Rattle.std.specs.Prelude.{ℕ, List, length, None}
 use Rattle.std.proofs.Math.Option.{Option, none}
 use Rattle.basics.specs.Choice.{or_else}
 use Rattle.byte_rules.specs.Reading.{Reading}
@@ -8,7 +8,6 @@ use Rattle.records.specs.Records.{list_answer, list_left}
 use Rattle.lines.specs.Lines.{lined}
 use Rattle.name_table.specs.Table.{table_refusal}
 use Rattle.name_table.specs.Search.{Lookup, entry_of}
-use Rattle.name_table.specs.declared.Entry.TheVariants.{Nothing}
 use Rattle.verify_markup.specs.Diag.{diag_width}
 use Rattle.verify_markup.specs.List.{diagnostics}
 use Rattle.verify_markup.specs.Items.{Tags, looked_up, not_looked_up, Names}
@@ -48,7 +47,7 @@ check_refusal buf start end t = or_else (span_refusal (length buf) start end) (t
 -- tags are looked up in the bibliography; where there is none every tag is missing
 abbrev pub tags_of : (List ℕ → List ℕ → Lookup) → Bibliography → Tags
 tags_of look (lent t) = looked_up (look t.bytes t.ends)
-tags_of look not_lent = looked_up (λ tag. Nothing)
+tags_of look not_lent = looked_up (λ tag. None)
 tags_of look no_tag_lookup = not_looked_up
 
 -- the names of the tables, by a way to look a name up in a table

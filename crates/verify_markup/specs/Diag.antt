@@ -1,5 +1,5 @@
 -- The records of the ten diagnostics (document 01, "Diagnostics"), and the neighbours of a mark.
-use Rattle.std.specs.Prelude.{ℕ, zero, suc, ◌+◌, Bool, true, false, not, List, [], ◌∷◌}
+use Rattle.std.specs.Prelude.{ℕ, zero, suc, ◌+◌, Bool, true, false, not, List, [], ◌∷◌, Option, Some, None}
 use Rattle.byte_rules.specs.Classes.{is_blank}
 use Rattle.look.specs.Look.{holds_at}
 
@@ -46,6 +46,11 @@ unclosed_html opening end = diag 10 opening end 0
 abbrev pub when : Bool → List ℕ → List (List ℕ)
 when true w = w ∷ []
 when false w = []
+
+-- a record of what is there, if it is
+abbrev pub of_some : {A : Type 0} → (A → List ℕ) → Option A → List (List ℕ)
+of_some made (Some x) = made x ∷ []
+of_some made None = []
 
 -- neighbours are looked up in the whole buffer; a missing one is no nonblank
 unfoldable pub is_nonblank : ℕ → Bool

@@ -1,23 +1,31 @@
--- What contracts of private functions of this crate speak of: the tables as the code is lent them, and the names that its search finds.
--- No contract of a public call speaks of them.
-use Rattle.std.specs.Prelude.{ℕ, List}
-use Rattle.name_table.specs.Search.{searched}
+-- The tables as the code is lent them, and the names that its search finds in them.
+use Rattle.name_table.specs.Search.{Lookup, searched}
+use Rattle.name_table.specs.declared.Table.{Table as LentTable}
 use Rattle.verify_markup.specs.Items.{Tags, Names}
-use Rattle.verify_markup.specs.Check.{Bibliography, lent, no_tag_lookup, Tables, table, tables, tags_of, names_by}
-use Rattle.verify_markup.specs.declared.TagLookup.{TagLookup}
-use Rattle.verify_markup.specs.declared.TagLookup.TheVariants.{LookedUp, NotLookedUp}
+use Rattle.verify_markup.specs.Check.{Table, Bibliography, lent, not_lent, no_tag_lookup, Tables, table, tags_of, names_by}
+use Rattle.verify_markup.specs.declared.Bibliography.{Bibliography as LentBibliography}
+use Rattle.verify_markup.specs.declared.Bibliography.TheVariants.{Lent, NotLent, NoTagLookup}
+use Rattle.verify_markup.specs.declared.Tables.{Tables as LentTables}
 
--- a table of tags, or the named choice, under which what stands in the table's place is not looked at
-abbrev pub bibliography_of : TagLookup → List ℕ → List ℕ → Bibliography
-bibliography_of LookedUp bytes ends = lent (table bytes ends)
-bibliography_of NotLookedUp bytes ends = no_tag_lookup
+abbrev pub lent_table : LentTable → Table
+lent_table t = table t.bytes.now t.ends.now
 
-abbrev pub lent_tables : List ℕ → List ℕ → List ℕ → List ℕ → TagLookup → List ℕ → List ℕ → Tables
-lent_tables sb se lb le tags bb be = tables sb se lb le (bibliography_of tags bb be)
+abbrev pub bibliography_of : LentBibliography → Bibliography
+bibliography_of (Lent t) = lent (lent_table t)
+bibliography_of NotLent = not_lent
+bibliography_of NoTagLookup = no_tag_lookup
+
+abbrev pub lent_tables : LentTables → Tables
+lent_tables t = record { symbols = lent_table t.symbols; labels = lent_table t.labels; bibliography = bibliography_of t.bibliography }
+
+-- ---- what contracts of private functions speak of
 
 -- the names as the code looks them up: by halving, which over good tables finds what the walk finds
-abbrev pub lent_names : List ℕ → List ℕ → List ℕ → List ℕ → TagLookup → List ℕ → List ℕ → Names
-lent_names sb se lb le tags bb be = names_by searched (lent_tables sb se lb le tags bb be)
+abbrev pub lent_search : LentTable → Lookup
+lent_search t = searched t.bytes.now t.ends.now
 
-abbrev pub lent_tags : TagLookup → List ℕ → List ℕ → Tags
-lent_tags tags bytes ends = tags_of searched (bibliography_of tags bytes ends)
+abbrev pub lent_names : LentTables → Names
+lent_names t = names_by searched (lent_tables t)
+
+abbrev pub lent_tags : LentBibliography → Tags
+lent_tags b = tags_of searched (bibliography_of b)

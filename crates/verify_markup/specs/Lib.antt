@@ -1,4 +1,5 @@
 pub mod Diag
+pub mod Words
 pub mod Texts
 pub mod Items
 pub mod List

@@ -1,37 +1,35 @@
 -- The diagnostics of a span: those of each event, one after the other along the events, with the modes carried; last 9, then 10.
-use Rattle.std.specs.Prelude.{ℕ, Bool, true, false, List, [], ◌∷◌, ◌++◌}
+use Rattle.std.specs.Prelude.{ℕ, Bool, true, false, List, [], ◌∷◌, ◌++◌, Option, Some, None}
 use Rattle.byte_rules.specs.Reading.{Reading}
-use Rattle.basics.specs.declared.Place.{Place}
-use Rattle.basics.specs.declared.Place.TheVariants.{At, Nowhere}
 use Rattle.comment_parser.specs.Events.{events_of}
 use Rattle.comment_parser.specs.declared.CommentItem.{CommentItem}
 use Rattle.comment_parser.specs.declared.CommentItem.TheVariants.{Text, LineBreak, StartMathMode, EndMathMode, MathToken, Label, Url}
 use Rattle.comment_parser.specs.declared.CommentItem.TheVariants.{StartHtml, EndHtml, StartSubscript, EndSubscript, StartItalic, EndItalic, BibTag}
 use Rattle.verify_markup.specs.declared.Modes.{Modes}
-use Rattle.verify_markup.specs.Diag.{unclosed_math_markup, unclosed_html}
+use Rattle.verify_markup.specs.Diag.{of_some, unclosed_math_markup, unclosed_html}
 use Rattle.verify_markup.specs.Items.{Names, item_diags}
 
-abbrev pub is_open : Place → Bool
-is_open (At i) = true
-is_open Nowhere = false
+abbrev pub is_open : Option ℕ → Bool
+is_open (Some i) = true
+is_open None = false
 
 -- where math and HTML were opened, if they are open
-abbrev pub modes : Place → Place → Modes
+abbrev pub modes : Option ℕ → Option ℕ → Modes
 modes m h = record { math = m; html = h }
 
 abbrev pub closed : Modes
-closed = modes Nowhere Nowhere
+closed = modes None None
 
 abbrev pub modes_after : Modes → CommentItem → Modes
 modes_after m (Text s) = m
 modes_after m (LineBreak i) = m
-modes_after m (StartMathMode i) = modes (At i) m.html
-modes_after m (EndMathMode i) = modes Nowhere m.html
+modes_after m (StartMathMode i) = modes (Some i) m.html
+modes_after m (EndMathMode i) = modes None m.html
 modes_after m (MathToken s) = m
 modes_after m (Label i s) = m
 modes_after m (Url i s) = m
-modes_after m (StartHtml i) = modes m.math (At i)
-modes_after m (EndHtml i) = modes m.math Nowhere
+modes_after m (StartHtml i) = modes m.math (Some i)
+modes_after m (EndHtml i) = modes m.math None
 modes_after m (StartSubscript i) = m
 modes_after m (EndSubscript i) = m
 modes_after m (StartItalic i) = m
@@ -39,9 +37,8 @@ modes_after m (EndItalic i) = m
 modes_after m (BibTag s) = m
 
 -- the record that is made of a mode that is open at the end of the span
-abbrev pub unclosed : (ℕ → ℕ → List ℕ) → ℕ → Place → List (List ℕ)
-unclosed made end (At i) = made i end ∷ []
-unclosed made end Nowhere = []
+abbrev pub unclosed : (ℕ → ℕ → List ℕ) → ℕ → Option ℕ → List (List ℕ)
+unclosed made end = of_some (λ i. made i end)
 
 unfoldable pub last_diags : ℕ → Modes → List (List ℕ)
 last_diags end m = unclosed unclosed_math_markup end m.math ++ unclosed unclosed_html end m.html

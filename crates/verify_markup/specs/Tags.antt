@@ -14,7 +14,8 @@ use Rattle.verify_markup.specs.Items.{Names, no_tag}
 use Rattle.verify_markup.specs.List.{diagnostics}
 use Rattle.verify_markup.specs.Check.{Bibliography, lent, not_lent, no_tag_lookup, Tables, table, tables, check_diags, check_answer, check_left}
 use Rattle.verify_markup.specs.Lent.{lent_tables}
-use Rattle.verify_markup.specs.declared.TagLookup.TheVariants.{NotLookedUp}
+use Rattle.name_table.specs.declared.Table.{Table as LentTable}
+use Rattle.verify_markup.specs.declared.Bibliography.TheVariants.{NoTagLookup}
 
 -- a record's kind is its first word
 abbrev pub kind_of : List ℕ → ℕ
@@ -71,6 +72,7 @@ NothingElse = (rd : Reading) (sb se lb le buf : List ℕ) (start end : ℕ) (b :
 abbrev pub NoEight : Type 0
 NoEight = (rd : Reading) (sb se lb le buf : List ℕ) (start end : ℕ) (w : List ℕ) → In w (check_diags rd buf start end (tables sb se lb le no_tag_lookup)) → kind_of w ≡ 8 → ⊥
 
--- whatever stands in the third table's place
+-- the named choice, as the code has it, is that of the definitions, and no third table stands beside it
 abbrev pub NotLookedAt : Type 0
-NotLookedAt = (sb se lb le bb be : List ℕ) → lent_tables sb se lb le NotLookedUp bb be ≡ tables sb se lb le no_tag_lookup
+NotLookedAt = (symbols labels : LentTable) → lent_tables (record { symbols = symbols; labels = labels; bibliography = NoTagLookup })
+    ≡ tables symbols.bytes.now symbols.ends.now labels.bytes.now labels.ends.now no_tag_lookup

@@ -1,5 +1,5 @@
 -- What a text's or a label's span gives: 2 at each lone escape byte, then 3 for the first HTML mark in any case.
-use Rattle.std.specs.Prelude.{ℕ, zero, suc, ◌+◌, ◌-◌, Bool, true, cond, not, ◌&&◌, List, [], ◌∷◌, ◌++◌, ltb, eqb, length, take}
+use Rattle.std.specs.Prelude.{ℕ, zero, suc, ◌+◌, ◌-◌, Bool, true, cond, not, ◌&&◌, List, [], ◌∷◌, ◌++◌, ltb, eqb, length, take, Option, Some, None}
 use Rattle.byte_rules.specs.Classes.{is_text_escape, is_label_escape, is_math_escape}
 use Rattle.byte_rules.specs.Names.{upper}
 use Rattle.look.specs.Look.{holds_at}
@@ -9,7 +9,7 @@ use Rattle.unescape.specs.declared.Escape.{Escape}
 use Rattle.unescape.specs.declared.Escape.TheVariants.{Text, Label, Math}
 use Rattle.comment_parser.specs.Item.{span}
 use Rattle.basics.specs.declared.Span.{Span}
-use Rattle.verify_markup.specs.Diag.{when, uninterpreted_escape, uninterpreted_html}
+use Rattle.verify_markup.specs.Diag.{when, of_some, uninterpreted_escape, uninterpreted_html}
 
 -- the escape bytes that are reported: each but a Text's `[`
 unfoldable pub is_reported : Escape → ℕ → Bool
@@ -26,14 +26,19 @@ unfoldable pub folded_at : List ℕ → ℕ → List ℕ → Bool
 folded_at s i [] = true
 folded_at s i (b ∷ bs) = holds_at (is_letter b) s i && folded_at s (i + 1) bs
 
--- how long the HTML mark at i is: 0 if there is none
-unfoldable pub html_len : List ℕ → ℕ → ℕ
-html_len s i = cond (folded_at s i open_html) (length open_html) (cond (folded_at s i close_html) (length close_html) 0)
+-- how long the HTML mark at i is, if there is one
+unfoldable pub html_len : List ℕ → ℕ → Option ℕ
+html_len s i = cond (folded_at s i open_html) (Some (length open_html)) (cond (folded_at s i close_html) (Some (length close_html)) None)
 
--- the first HTML mark among the `left` places from i on; an empty span if there is none
-unfoldable pub html_from : List ℕ → ℕ → ℕ → Span
-html_from s zero i = span i i
-html_from s (suc left) i = cond (eqb (html_len s i) 0) (html_from s left (i + 1)) (span i (i + html_len s i))
+-- the mark of so many bytes at i, or what is said where there is none
+abbrev pub mark_or : Option Span → ℕ → Option ℕ → Option Span
+mark_or other i (Some n) = Some (span i (i + n))
+mark_or other i None = other
+
+-- the first HTML mark among the `left` places from i on
+unfoldable pub html_from : List ℕ → ℕ → ℕ → Option Span
+html_from s zero i = None
+html_from s (suc left) i = mark_or (html_from s left (i + 1)) i (html_len s i)
 
 module _ (buf : List ℕ) where
   -- an escape byte that is reported, and is not doubled, at i; doubling is looked up in the whole buffer
@@ -49,7 +54,7 @@ module _ (buf : List ℕ) where
 
   -- 3 for the first HTML mark within the span
   unfoldable pub html_in : ℕ → ℕ → List (List ℕ)
-  html_in a e = let m = html_from (take e buf) (e - a) a in when (ltb m.start m.end) (uninterpreted_html m.start m.end)
+  html_in a e = of_some (λ m. uninterpreted_html m.start m.end) (html_from (take e buf) (e - a) a)
 
   unfoldable pub written : Escape → ℕ → ℕ → List (List ℕ)
   written kind a e = lone_from kind e (e - a) a ++ html_in a e

@@ -2,141 +2,76 @@
 ghost use Rattle.std.specs.Prelude.{◌≡◌, length};
 ghost use Rattle.byte_rules.specs.Reading.{named};
 ghost use Rattle.records.specs.Answer.{filled_answer, checked_answer};
-ghost use Rattle.records.specs.Records.{laid};
-ghost use Rattle.verify_markup.specs.Diag.{diag_width};
-ghost use Rattle.verify_markup.specs.List.{diagnostics};
+ghost use Rattle.comment_parser.specs.Items.{items_left};
+ghost use Rattle.verify_markup.specs.Bounds.{LiesIn};
+ghost use Rattle.verify_markup.specs.List.{closed, diags_from};
 ghost use Rattle.verify_markup.specs.Check.{tables_refusal, check_answer, check_left};
+ghost use Rattle.verify_markup.specs.Words.{Writes};
 ghost use Rattle.verify_markup.specs.Lent.{lent_tables, lent_names};
-ghost use Rattle.verify_markup.specs.Bounds.{InBuf};
 
+use crate::diagnostic::DIAG_WIDTH;
 use crate::items::lay_item;
-use crate::kinds::DIAG_WIDTH;
 use crate::opened::lay_last;
-use crate::{Modes, TagLookup};
-use basics::Place;
+use crate::part::Part;
+use crate::{Bibliography, Modes, Tables};
+use basics::Span;
 use byte_rules::Reading;
-use comment_parser::{Next, ParserState};
+use comment_parser::Items;
 use lines::fill_lines;
-use name_table::check_table;
-use records::{Checked, Filled, check_span};
-use scans::Note;
+use records::{FillError, Refusal, Wrote, fits};
 
-// Lays the diagnostics of the span, but for their lines, as many as fit, and counts them.
-fn lay_all(
-    reading: Reading,
-    buf: &[u8],
-    start: usize,
-    end: usize,
-    sb: &[u8],
-    se: &[u32],
-    lb: &[u8],
-    le: &[u32],
-    tags: TagLookup,
-    bb: &[u8],
-    be: &[u32],
-    out: &mut [u32],
-) -> usize
-    requires { InBuf buf.now start end }
-    ensures count { let names = lent_names sb.now se.now lb.now le.now tags bb.now be.now in
-        result ≡ length (diagnostics (named reading) names buf.now start end) }
-    ensures left { let names = lent_names sb.now se.now lb.now le.now tags bb.now be.now in
-        out.new ≡ laid diag_width (diagnostics (named reading) names buf.now start end) out.old }
+// Lays the diagnostics of a span's events, but for their lines, as many as fit, and counts them.
+fn lay_all(part: Part<'_>, items: Items<'_>, tables: Tables<'_>, out: &mut [u32]) -> Wrote
+    requires { LiesIn part.span (items_left items) }
+    ensures { let p = part.entry in
+        Writes (diags_from p.buf.now p.span.end (lent_names tables.entry) closed (items_left items.entry)) out.old out.new result }
 {
-    let mut st = ParserState::new(reading, start, end);
-    let mut note = Note::nothing();
     let mut modes = Modes {
-        math: Place::Nowhere,
-        html: Place::Nowhere,
+        math: None,
+        html: None,
     };
-    let mut at: usize = 0;
-    let mut n: usize = 0;
-    loop {
-        let noted = st.next_within(buf, note);
-        let next = noted.next;
-        let later = noted.note;
-        let Next::Event(after, item) = next else {
-            break;
-        };
+    let mut wrote = Wrote::NOTHING;
+    for item in items {
         let html = modes.in_html();
-        let wrote = lay_item(
-            buf,
-            html,
-            item,
-            sb,
-            se,
-            lb,
-            le,
-            tags,
-            bb,
-            be,
-            &mut out[at..],
-        );
-        at += wrote.words;
-        n += wrote.count;
+        let one = lay_item(part.buf, html, item, tables, &mut out[wrote.words..]);
+        wrote = wrote.then(one);
         modes = modes.after(item);
-        st = after;
-        note = later;
     }
-    let last = lay_last(modes, end, &mut out[at..]);
-    n + last.count
+    let last = lay_last(modes, part.span.end, &mut out[wrote.words..]);
+    wrote.then(last)
 }
 
-// 4 for the lowest table that is malformed.
-fn check_tables(
-    sb: &[u8],
-    se: &[u32],
-    lb: &[u8],
-    le: &[u32],
-    tags: TagLookup,
-    bb: &[u8],
-    be: &[u32],
-) -> Checked
-    ensures { let t = lent_tables sb.now se.now lb.now le.now tags bb.now be.now in
-        checked_answer result ≡ tables_refusal t }
-{
-    if let Checked::Refused(why) = check_table(1, sb, se) {
-        return Checked::Refused(why);
-    }
-    if let Checked::Refused(why) = check_table(2, lb, le) {
-        return Checked::Refused(why);
-    }
-    match tags {
-        TagLookup::LookedUp => check_table(3, bb, be),
-        TagLookup::NotLookedUp => Checked::Good,
+impl Tables<'_> {
+    // 4 for the lowest table that is malformed.
+    fn check(self) -> Result<(), Refusal>
+        ensures { checked_answer result ≡ tables_refusal (lent_tables self.entry) }
+    {
+        self.symbols.check(1)?;
+        self.labels.check(2)?;
+        match self.bibliography {
+            Bibliography::Lent(table) => table.check(3),
+            Bibliography::NotLent => Ok(()),
+            Bibliography::NoTagLookup => Ok(()),
+        }
     }
 }
 
-// The comment check, with tags looked up in the third table or not looked up. An enum cannot hold a table, so it stands beside the choice.
-pub(crate) fn check(
+// The diagnostics of the span in the reading that is named.
+pub fn verify_markup(
     reading: Reading,
     buf: &[u8],
     start: usize,
     end: usize,
-    sb: &[u8],
-    se: &[u32],
-    lb: &[u8],
-    le: &[u32],
-    tags: TagLookup,
-    bb: &[u8],
-    be: &[u32],
+    tables: Tables<'_>,
     out: &mut [u32],
-) -> Filled
-    ensures answer { let t = lent_tables sb.now se.now lb.now le.now tags bb.now be.now in
-        filled_answer result ≡ check_answer (named reading) buf.now start end t (length out.old) }
-    ensures left { let t = lent_tables sb.now se.now lb.now le.now tags bb.now be.now in
-        out.new ≡ check_left (named reading) buf.now start end t out.old }
+) -> Result<usize, FillError>
+    ensures answer { filled_answer result ≡ check_answer (named reading) buf.now start end (lent_tables tables.entry) (length out.old) }
+    ensures left { out.new ≡ check_left (named reading) buf.now start end (lent_tables tables.entry) out.old }
 {
-    if let Checked::Refused(why) = check_span(buf.len(), start, end) {
-        return Filled::Refused(why);
-    }
-    if let Checked::Refused(why) = check_tables(sb, se, lb, le, tags, bb, be) {
-        return Filled::Refused(why);
-    }
-    let n = lay_all(reading, buf, start, end, sb, se, lb, le, tags, bb, be, out);
-    fill_lines(buf, n, out);
-    if n <= out.len() / DIAG_WIDTH {
-        Filled::Done(n)
-    } else {
-        Filled::Short(n)
-    }
+    let items = Items::new(reading, buf, start, end)?;
+    tables.check()?;
+    let span = Span { start, end };
+    let count = lay_all(Part { buf, span }, items, tables, out).count;
+    fill_lines(buf, count, out);
+    fits(count, out.len() / DIAG_WIDTH)
 }

@@ -1,197 +1,131 @@
 // The diagnostics of one event.
 ghost use Rattle.std.specs.Prelude.{◌≡◌, ◌-◌, ◌≤◌, length};
 ghost use Rattle.records.specs.Answer.{longest};
-ghost use Rattle.records.specs.Records.{laid, wrote_of};
 ghost use Rattle.name_table.specs.Spelling.{spelled};
-ghost use Rattle.name_table.specs.Search.{is_missing, searched};
+ghost use Rattle.name_table.specs.Search.{is_missing};
 ghost use Rattle.comment_parser.specs.Item.{placed_of};
 ghost use Rattle.comment_parser.specs.Bounds.{Within};
-ghost use Rattle.verify_markup.specs.Diag.{diag_width};
 ghost use Rattle.verify_markup.specs.Items.{no_tag, token_diags, tilde_diags, link_diags, name_diags, label_diags, bib_escapes, tag_diags, item_diags};
-ghost use Rattle.verify_markup.specs.Lent.{lent_tags, lent_names};
-ghost use Rattle.verify_markup.specs.Bounds.{InBuf};
+ghost use Rattle.verify_markup.specs.Lent.{lent_search, lent_tags, lent_names};
+ghost use Rattle.verify_markup.specs.Words.{Writes};
 
-use crate::TagLookup;
-use crate::kinds::{BIB_ESCAPE, EMPTY_LABEL, UNDEFINED_BIB_TAG, UNDEFINED_TOKEN, UNKNOWN_LABEL};
-use crate::laying::{lay_after, lay_before, lay_if};
+use crate::diagnostic::Diagnostic;
+use crate::laying::{lay_if, lay_one, nonblank_at, nonblank_before};
+use crate::part::{Link, Part};
 use crate::texts::lay_written;
+use crate::{Bibliography, Tables};
 use comment_parser::CommentItem;
 use look::byte_at;
-use name_table::{Entry, Spelling, search};
+use name_table::{Spelling, Table};
 use records::Wrote;
 use unescape::Escape;
 
 // The search finds no entry of the name that the text spells.
-fn lacks(bytes: &[u8], ends: &[u32], how: Spelling, text: &[u8]) -> bool
-    ensures { result ≡ is_missing (searched bytes.now ends.now (spelled how text.now)) }
+fn lacks(table: Table<'_>, how: Spelling, text: &[u8]) -> bool
+    ensures { result ≡ is_missing (lent_search table.entry (spelled how text.now)) }
 {
-    match search(bytes, ends, how, text) {
-        Entry::At(_) => false,
-        Entry::Nothing => true,
-    }
+    table.search(how, text).is_none()
 }
 
 // A MathToken, looked up unescaped.
-fn lay_token(
-    buf: &[u8],
-    start: usize,
-    end: usize,
-    bytes: &[u8],
-    ends: &[u32],
-    room: &mut [u32],
-) -> Wrote
-    requires { InBuf buf.now start end }
-    ensures wrote { let known = searched bytes.now ends.now in
-        result ≡ wrote_of diag_width (token_diags buf.now known start end) (length room.old) }
-    ensures left { let known = searched bytes.now ends.now in
-        room.new ≡ laid diag_width (token_diags buf.now known start end) room.old }
+#[tactic(auto, unfolding(name_table::specs::Spelling::spelled, crate::specs::Items::token_diags))]
+fn lay_token(part: Part<'_>, symbols: Table<'_>, room: &mut [u32]) -> Wrote
+    ensures { let p = part.entry in
+        Writes (token_diags p.buf.now (lent_search symbols.entry) p.span.start p.span.end) room.old room.new result }
 {
-    let unknown = lacks(
-        bytes,
-        ends,
-        Spelling::Escaped(Escape::Math),
-        &buf[start..end],
-    );
-    lay_if(unknown, UNDEFINED_TOKEN, start, end, 0, room)
+    let unknown = lacks(symbols, Spelling::Escaped(Escape::Math), part.bytes());
+    lay_if(unknown, Diagnostic::UndefinedToken(part.span), room)
 }
 
-// The tilde of a Label or a Url.
-fn lay_tilde(buf: &[u8], i: usize, room: &mut [u32]) -> Wrote
-    requires { i ≤ longest }
-    ensures wrote { result ≡ wrote_of diag_width (tilde_diags buf.now i) (length room.old) }
-    ensures left { room.new ≡ laid diag_width (tilde_diags buf.now i) room.old }
+// The byte before a tilde, and the byte after.
+fn lay_tilde(link: Link<'_>, room: &mut [u32]) -> Wrote
+    ensures { Writes (tilde_diags link.entry.part.buf.now link.entry.tilde) room.old room.new result }
 {
-    let before = lay_before(buf, i, room);
-    let at = before.words;
-    let after = lay_after(buf, i, &mut room[at..]);
-    Wrote {
-        words: at + after.words,
-        count: before.count + after.count,
-    }
+    let buf = link.part.buf;
+    let diagnostic = Diagnostic::MarkupNeedsWhitespace(link.tilde);
+    let before = nonblank_before(buf, link.tilde);
+    let first = lay_if(before, diagnostic, room);
+    let after = nonblank_at(buf, link.tilde + 1);
+    first.then(lay_if(after, diagnostic, &mut room[first.words..]))
 }
 
 // A Url, and a Label but for its name.
-fn lay_link(buf: &[u8], i: usize, start: usize, end: usize, room: &mut [u32]) -> Wrote
-    requires { (i ≤ longest) × InBuf buf.now start end }
-    ensures wrote { result ≡ wrote_of diag_width (link_diags buf.now i start end) (length room.old) }
-    ensures left { room.new ≡ laid diag_width (link_diags buf.now i start end) room.old }
+fn lay_link(link: Link<'_>, room: &mut [u32]) -> Wrote
+    ensures { let p = link.entry.part in
+        Writes (link_diags p.buf.now link.entry.tilde p.span.start p.span.end) room.old room.new result }
 {
-    let tilde = lay_tilde(buf, i, room);
-    let at = tilde.words;
-    let text = lay_written(Escape::Label, buf, start, end, &mut room[at..]);
-    Wrote {
-        words: at + text.words,
-        count: tilde.count + text.count,
-    }
+    let tilde = lay_tilde(link, room);
+    let text = lay_written(Escape::Label, link.part, &mut room[tilde.words..]);
+    tilde.then(text)
 }
 
 // A label's name, looked up unescaped.
-fn lay_name(
-    buf: &[u8],
-    i: usize,
-    start: usize,
-    end: usize,
-    bytes: &[u8],
-    ends: &[u32],
-    room: &mut [u32],
-) -> Wrote
-    requires { (i ≤ longest) × InBuf buf.now start end }
-    ensures wrote { let known = searched bytes.now ends.now in
-        result ≡ wrote_of diag_width (name_diags buf.now known i start end) (length room.old) }
-    ensures left { let known = searched bytes.now ends.now in
-        room.new ≡ laid diag_width (name_diags buf.now known i start end) room.old }
+#[tactic(auto, unfolding(name_table::specs::Spelling::spelled, crate::specs::Items::name_diags))]
+fn lay_name(link: Link<'_>, labels: Table<'_>, room: &mut [u32]) -> Wrote
+    ensures { let p = link.entry.part in
+        Writes (name_diags p.buf.now (lent_search labels.entry) link.entry.tilde p.span.start p.span.end) room.old room.new result }
 {
-    if start == end {
-        return lay_if(true, EMPTY_LABEL, i, 0, 0, room);
+    let span = link.part.span;
+    if span.start == span.end {
+        return lay_one(Diagnostic::EmptyLabel(link.tilde), room);
     }
-    let unknown = lacks(
-        bytes,
-        ends,
-        Spelling::Escaped(Escape::Label),
-        &buf[start..end],
-    );
-    lay_if(unknown, UNKNOWN_LABEL, start, end, 0, room)
+    let unknown = lacks(labels, Spelling::Escaped(Escape::Label), link.part.bytes());
+    lay_if(unknown, Diagnostic::UnknownLabel(span), room)
 }
 
-fn lay_label(
-    buf: &[u8],
-    i: usize,
-    start: usize,
-    end: usize,
-    bytes: &[u8],
-    ends: &[u32],
-    room: &mut [u32],
-) -> Wrote
-    requires { (i ≤ longest) × InBuf buf.now start end }
-    ensures wrote { let known = searched bytes.now ends.now in
-        result ≡ wrote_of diag_width (label_diags buf.now known i start end) (length room.old) }
-    ensures left { let known = searched bytes.now ends.now in
-        room.new ≡ laid diag_width (label_diags buf.now known i start end) room.old }
+fn lay_label(link: Link<'_>, labels: Table<'_>, room: &mut [u32]) -> Wrote
+    ensures { let p = link.entry.part in
+        Writes (label_diags p.buf.now (lent_search labels.entry) link.entry.tilde p.span.start p.span.end) room.old room.new result }
 {
-    let link = lay_link(buf, i, start, end, room);
-    let at = link.words;
-    let name = lay_name(buf, i, start, end, bytes, ends, &mut room[at..]);
-    Wrote {
-        words: at + name.words,
-        count: link.count + name.count,
-    }
+    let first = lay_link(link, room);
+    let name = lay_name(link, labels, &mut room[first.words..]);
+    first.then(name)
 }
 
 // 7 at each backtick or `~` of a tag.
-fn lay_bib_escapes(buf: &[u8], start: usize, end: usize, room: &mut [u32]) -> Wrote
-    requires { InBuf buf.now start end }
-    ensures wrote { result ≡ wrote_of diag_width (bib_escapes buf.now start end (end - start) start) (length room.old) }
-    ensures left { room.new ≡ laid diag_width (bib_escapes buf.now start end (end - start) start) room.old }
+fn lay_bib_escapes(part: Part<'_>, room: &mut [u32]) -> Wrote
+    ensures { let p = part.entry in
+        Writes (bib_escapes p.buf.now p.span.start p.span.end (p.span.end - p.span.start) p.span.start) room.old room.new result }
 {
-    let mut i = start;
-    let mut at: usize = 0;
-    let mut n: usize = 0;
-    while i < end {
+    let buf = part.buf;
+    let span = part.span;
+    let mut wrote = Wrote::NOTHING;
+    for i in span.start..span.end {
         let escape = byte_at(buf, i, b'`') | byte_at(buf, i, b'~');
-        let wrote = lay_if(escape, BIB_ESCAPE, i, start, end, &mut room[at..]);
-        at += wrote.words;
-        n += wrote.count;
-        i += 1;
+        let one = lay_if(
+            escape,
+            Diagnostic::BibEscape(i, span),
+            &mut room[wrote.words..],
+        );
+        wrote = wrote.then(one);
     }
-    Wrote {
-        words: at,
-        count: n,
-    }
+    wrote
 }
 
 // Tags are looked up, as they stand, and this one is not found.
-fn no_tag(tags: TagLookup, bytes: &[u8], ends: &[u32], tag: &[u8]) -> bool
-    ensures { result ≡ no_tag (lent_tags tags bytes.now ends.now) tag.now }
+#[tactic(auto, unfolding(name_table::specs::Spelling::spelled))]
+fn no_tag(bibliography: Bibliography<'_>, tag: &[u8]) -> bool
+    ensures { result ≡ no_tag (lent_tags bibliography.entry) tag.now }
 {
-    match tags {
-        TagLookup::LookedUp => lacks(bytes, ends, Spelling::Plain, tag),
-        TagLookup::NotLookedUp => false,
+    match bibliography {
+        Bibliography::Lent(table) => lacks(table, Spelling::Plain, tag),
+        Bibliography::NotLent => true,
+        Bibliography::NoTagLookup => false,
     }
 }
 
-fn lay_tag(
-    buf: &[u8],
-    start: usize,
-    end: usize,
-    tags: TagLookup,
-    bytes: &[u8],
-    ends: &[u32],
-    room: &mut [u32],
-) -> Wrote
-    requires { InBuf buf.now start end }
-    ensures wrote { let known = lent_tags tags bytes.now ends.now in
-        result ≡ wrote_of diag_width (tag_diags buf.now known start end) (length room.old) }
-    ensures left { let known = lent_tags tags bytes.now ends.now in
-        room.new ≡ laid diag_width (tag_diags buf.now known start end) room.old }
+fn lay_tag(part: Part<'_>, bibliography: Bibliography<'_>, room: &mut [u32]) -> Wrote
+    ensures { let p = part.entry in
+        Writes (tag_diags p.buf.now (lent_tags bibliography.entry) p.span.start p.span.end) room.old room.new result }
 {
-    let escapes = lay_bib_escapes(buf, start, end, room);
-    let at = escapes.words;
-    let unknown = no_tag(tags, bytes, ends, &buf[start..end]);
-    let tag = lay_if(unknown, UNDEFINED_BIB_TAG, start, end, 0, &mut room[at..]);
-    Wrote {
-        words: at + tag.words,
-        count: escapes.count + tag.count,
-    }
+    let escapes = lay_bib_escapes(part, room);
+    let unknown = no_tag(bibliography, part.bytes());
+    let tag = lay_if(
+        unknown,
+        Diagnostic::UndefinedBibTag(part.span),
+        &mut room[escapes.words..],
+    );
+    escapes.then(tag)
 }
 
 // What an event gives; `html` says whether it stands in HTML.
@@ -199,29 +133,32 @@ pub(crate) fn lay_item(
     buf: &[u8],
     html: bool,
     item: CommentItem,
-    sb: &[u8],
-    se: &[u32],
-    lb: &[u8],
-    le: &[u32],
-    tags: TagLookup,
-    bb: &[u8],
-    be: &[u32],
+    tables: Tables<'_>,
     room: &mut [u32],
 ) -> Wrote
     requires { (length buf.now ≤ longest) × Within 0 (length buf.now) (placed_of item) }
-    ensures wrote { let names = lent_names sb.now se.now lb.now le.now tags bb.now be.now in
-        result ≡ wrote_of diag_width (item_diags buf.now names html item) (length room.old) }
-    ensures left { let names = lent_names sb.now se.now lb.now le.now tags bb.now be.now in
-        room.new ≡ laid diag_width (item_diags buf.now names html item) room.old }
+    ensures { Writes (item_diags buf.now (lent_names tables.entry) html item) room.old room.new result }
 {
     match item {
-        CommentItem::Text(s) => lay_written(Escape::Text { html }, buf, s.start, s.end, room),
-        CommentItem::StartMathMode(i) => lay_after(buf, i, room),
-        CommentItem::EndMathMode(i) => lay_before(buf, i, room),
-        CommentItem::MathToken(s) => lay_token(buf, s.start, s.end, sb, se, room),
-        CommentItem::Label(i, s) => lay_label(buf, i, s.start, s.end, lb, le, room),
-        CommentItem::Url(i, s) => lay_link(buf, i, s.start, s.end, room),
-        CommentItem::BibTag(s) => lay_tag(buf, s.start, s.end, tags, bb, be, room),
-        _ => Wrote { words: 0, count: 0 },
+        CommentItem::Text(span) => lay_written(Escape::Text { html }, Part { buf, span }, room),
+        CommentItem::StartMathMode(i) => {
+            let after = nonblank_at(buf, i + 1);
+            lay_if(after, Diagnostic::MarkupNeedsWhitespace(i), room)
+        }
+        CommentItem::EndMathMode(i) => {
+            let before = nonblank_before(buf, i);
+            lay_if(before, Diagnostic::MarkupNeedsWhitespace(i), room)
+        }
+        CommentItem::MathToken(span) => lay_token(Part { buf, span }, tables.symbols, room),
+        CommentItem::Label(tilde, span) => {
+            let part = Part { buf, span };
+            lay_label(Link { tilde, part }, tables.labels, room)
+        }
+        CommentItem::Url(tilde, span) => {
+            let part = Part { buf, span };
+            lay_link(Link { tilde, part }, room)
+        }
+        CommentItem::BibTag(span) => lay_tag(Part { buf, span }, tables.bibliography, room),
+        _ => Wrote::NOTHING,
     }
 }

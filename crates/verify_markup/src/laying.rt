@@ -1,63 +1,55 @@
 // A diagnostic's record, laid at the front of a room; and the two neighbours of a mark.
-ghost use Rattle.std.specs.Prelude.{◌≡◌, ◌≤◌, length};
-ghost use Rattle.records.specs.Answer.{longest};
-ghost use Rattle.records.specs.Records.{laid, wrote_of};
-ghost use Rattle.verify_markup.specs.Diag.{diag_width, diag, when, nonblank_at, nonblank_before, space_before, space_after};
+ghost use Rattle.std.specs.Prelude.{◌≡◌, [], ◌∷◌};
+ghost use Rattle.verify_markup.specs.Diag.{when, nonblank_at, nonblank_before};
+ghost use Rattle.verify_markup.specs.Words.{FitsWords, FitsIf, words_of, words_if, Writes};
 
-use crate::kinds::MARKUP_NEEDS_WHITESPACE;
+use crate::diagnostic::Diagnostic;
 use byte_rules::is_blank;
 use records::{Wrote, lay};
 
-// Lays the record, but for its line, if the test holds.
-pub(crate) fn lay_if(test: bool, kind: u32, a: usize, b: usize, c: usize, room: &mut [u32]) -> Wrote
-    requires { (a ≤ longest) × (b ≤ longest) × (c ≤ longest) }
-    ensures wrote { result ≡ wrote_of diag_width (when test (diag kind a b c)) (length room.old) }
-    ensures left { room.new ≡ laid diag_width (when test (diag kind a b c)) room.old }
+// Lays the record, but for its line.
+pub(crate) fn lay_one(diagnostic: Diagnostic, room: &mut [u32]) -> Wrote
+    requires { FitsWords diagnostic }
+    ensures { Writes (words_of diagnostic ∷ []) room.old room.new result }
+{
+    lay(room, &diagnostic.words())
+}
+
+// Lays it if the test holds.
+pub(crate) fn lay_if(test: bool, diagnostic: Diagnostic, room: &mut [u32]) -> Wrote
+    requires { FitsWords diagnostic }
+    ensures { Writes (when test (words_of diagnostic)) room.old room.new result }
 {
     if test {
-        lay(room, &[kind, a as u32, b as u32, c as u32, 0])
+        lay_one(diagnostic, room)
     } else {
-        Wrote { words: 0, count: 0 }
+        Wrote::NOTHING
     }
 }
 
-fn nonblank_at(buf: &[u8], i: usize) -> bool
+// Lays it if there is one.
+pub(crate) fn lay_option(diagnostic: Option<Diagnostic>, room: &mut [u32]) -> Wrote
+    requires { FitsIf diagnostic }
+    ensures { Writes (words_if diagnostic) room.old room.new result }
+{
+    match diagnostic {
+        Some(d) => lay_one(d, room),
+        None => Wrote::NOTHING,
+    }
+}
+
+// The byte at i is there and no blank.
+#[tactic(auto, using(crate::proofs::DiagLaws::nonblank_in, crate::proofs::DiagLaws::nonblank_past))]
+pub(crate) fn nonblank_at(buf: &[u8], i: usize) -> bool
     ensures { result ≡ nonblank_at buf.now i }
 {
-    if i < buf.len() {
-        let blank = is_blank(buf[i]);
-        !blank
-    } else {
-        false
-    }
+    buf.get(i).is_some_and(|c| !is_blank(*c))
 }
 
-fn nonblank_before(buf: &[u8], i: usize) -> bool
+// The byte before i is.
+#[tactic(auto, using(crate::proofs::DiagLaws::before_start, crate::proofs::DiagLaws::before_is))]
+pub(crate) fn nonblank_before(buf: &[u8], i: usize) -> bool
     ensures { result ≡ nonblank_before buf.now i }
 {
-    if i == 0 {
-        false
-    } else {
-        nonblank_at(buf, i - 1)
-    }
-}
-
-// 1 for the byte before the mark at i.
-pub(crate) fn lay_before(buf: &[u8], i: usize, room: &mut [u32]) -> Wrote
-    requires { i ≤ longest }
-    ensures wrote { result ≡ wrote_of diag_width (space_before buf.now i) (length room.old) }
-    ensures left { room.new ≡ laid diag_width (space_before buf.now i) room.old }
-{
-    let before = nonblank_before(buf, i);
-    lay_if(before, MARKUP_NEEDS_WHITESPACE, i, 0, 0, room)
-}
-
-// 1 for the byte after it.
-pub(crate) fn lay_after(buf: &[u8], i: usize, room: &mut [u32]) -> Wrote
-    requires { i ≤ longest }
-    ensures wrote { result ≡ wrote_of diag_width (space_after buf.now i) (length room.old) }
-    ensures left { room.new ≡ laid diag_width (space_after buf.now i) room.old }
-{
-    let after = nonblank_at(buf, i + 1);
-    lay_if(after, MARKUP_NEEDS_WHITESPACE, i, 0, 0, room)
+    i != 0 && nonblank_at(buf, i - 1)
 }

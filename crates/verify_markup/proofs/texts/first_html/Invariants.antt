@@ -1,8 +1,6 @@
 -- `texts::first_html` meets its contract. The loop's invariant: the first mark from i on is the first of all.
 -- Assumes nothing.
-use Prim.Native.Nat.{◌-◌, ◌≤◌}
-use mathlib.Core.Path.{◌≡◌}
-use lib.ListN.{length}
+use Rattle.std.proofs.Common.{◌≡◌, ◌-◌, ◌≤◌, length}
 use Rattle.verify_markup.specs.Texts.{html_from}
 use Rattle.verify_markup.proofs.texts.first_html.Given as goal
 

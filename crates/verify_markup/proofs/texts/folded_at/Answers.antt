@@ -1,26 +1,21 @@
--- `texts::folded_at` meets its contract. The loop's invariant: the word from its byte k on stands at i + k as the word stands at i.
+-- `texts::folded_at` meets its contract: where enough bytes are left they are compared in turn.
 -- Assumes nothing.
-use Prim.Native.Nat.{◌+◌}
-use mathlib.Core.Path.{◌≡◌, sym, ◌∙◌}
-use native.Mathlib.Omega.{arith}
-use Rattle.verify_markup.proofs.TextLaws.{folded_ends, folded_past, folded_differs, folded_on}
+use Rattle.std.proofs.Common.{rules, ◌∙◌}
+use Rattle.std.proofs.lemmas.Bool.{lt-leb}
+use borrow.Author.Tests.{tests}
+use Rattle.std.proofs.lemmas.Iterator.{YieldsList-from_slice, YieldsList-from_zip}
+use Rattle.std.proofs.lemmas.Iterator.Search.{all_from_yields_List}
+use Rattle.records.proofs.Laying.{tail, tail_is}
+use Rattle.verify_markup.proofs.TextLaws.{is_same, folded_short, folded_zip}
 use Rattle.verify_markup.proofs.texts.folded_at.Goals as goal
 
-pub loop-k-init : goal.loop-k-init
-loop-k-init c = let z : c.args.i + 0 ≡ c.args.i = omega arith in (omega arith, rw z)
-
-pub returns-then-text-p : goal.returns-then-text-p
-returns-then-text-p c = sym (folded_past _ _ _ _ c.loop-k-test.true c.if-text-p.true) ∙ c.loop-k.invariant.1
-
-pub returns-then-upper-word : goal.returns-then-upper-word
-returns-then-upper-word c =
-    sym (folded_differs _ _ _ _ c.loop-k-test.true c.if-text-p.false (λ e. c.if-upper-word.true (c.upper.ensures ∙ e))) ∙ c.loop-k.invariant.1
-
-pub loop-k-preserved : goal.loop-k-preserved
-loop-k-preserved c =
+pub returns-then-word-rest : goal.returns-then-word-rest
+returns-then-word-rest c =
     let a = c.args in
-    let z : a.i + (c.loop-k.k + 1) ≡ a.i + c.loop-k.k + 1 = omega arith in
-    (omega arith, rw z (sym (folded_on _ _ _ _ c.loop-k-test.true c.if-text-p.false (sym c.upper.ensures ∙ c.if-upper-word.false)) ∙ c.loop-k.invariant.1))
+    all_from_yields_List is_same c.all.new.self _ _ c.all.ensures.ran (YieldsList-from_zip (YieldsList-from_slice (tail a.i a.text.now) cc) (YieldsList-from_slice a.word.now cc)) (λ x b q k. search (rules, tests))
+    ∙ rw (tail_is a.i a.text.now) (folded_zip a.text.now a.word.now a.i (rw (tail_is a.i a.text.now) at c.if-word-rest.true))
 
-pub returns : goal.returns
-returns c = sym (folded_ends _ _ _ _ c.loop-k-test.false) ∙ c.loop-k.invariant.1
+pub returns-else-word-rest : goal.returns-else-word-rest
+returns-else-word-rest c =
+    let a = c.args in
+    lt-leb _ _ c.if-word-rest.false ∙ folded_short a.text.now a.word.now a.i c.requires (rw (tail_is a.i a.text.now) at c.if-word-rest.false)
