@@ -1,19 +1,11 @@
--- What the parser's own unescape calls give over a view.
-use Rattle.std.specs.Prelude.{ℕ, Bool, List}
-use Rattle.byte_rules.specs.Classes.{is_text_escape, is_label_escape, is_math_escape}
+-- What the parser's own unescape call gives over a view.
+use Rattle.std.specs.Prelude.{ℕ, List}
 use Rattle.records.specs.Answer.{Answer}
-use Rattle.comment_parser.specs.Own.{own_answer, own_left}
+use Rattle.comment_parser.specs.Own.{escapes_of, own_answer, own_left}
 use Rattle.comment_parser.specs.declared.ParserState.{ParserState}
-use Rattle.comment_view.specs.declared.unescaping.Form.{Form}
-use Rattle.comment_view.specs.declared.unescaping.Form.TheVariants.{Text, Label, Math}
+use Rattle.comment_parser.specs.declared.own.Form.{Form}
 
--- the escapes of a form; a text's are those of the state's present mode
-abbrev pub escapes_of : Form → ParserState → ℕ → Bool
-escapes_of Text st = is_text_escape st.html
-escapes_of Label st = is_label_escape
-escapes_of Math st = is_math_escape
-
--- what they answer, and what they leave in the room
+-- what it answers, and what it leaves in the room
 module _ (form : Form) (st : ParserState) (buf : List ℕ) (start end : ℕ) where
   abbrev pub form_answer : ℕ → Answer
   form_answer room = own_answer (escapes_of form st) st buf start end room

@@ -10,54 +10,18 @@ ghost use Rattle.comment_parser.specs.Next.{next_of};
 ghost use Rattle.comment_view.specs.View.{gives, opened_answer, open_answer, view_of};
 
 use byte_rules::Reading;
-use comment_parser::{CommentItem, Next, ParserState};
+pub use comment_parser::Form;
+use comment_parser::{CommentItem, ParserState};
 pub use listed::events_by_view;
-use records::{Checked, Refusal, check_span};
-pub use unescaping::Form;
+use records::{Refusal, check_span};
 
-// What a step gives. The state after it is left where the state was.
-#[derive(Clone, Copy)]
-pub enum NextItem {
-    Event(CommentItem),
-    End,
-    Refused(Refusal),
-}
-
-// What a step gives, and the state after it.
-#[derive(Clone, Copy)]
-struct Stepped {
-    next: NextItem,
-    state: ParserState,
-}
-
-// The parser's `next`, its answer parted from the state.
-fn read_step(state: ParserState, buf: &[u8]) -> Stepped
-    ensures { gives result.next result.state ≡ next_of (named state.reading) buf.now state }
-{
-    let next = state.next(buf);
-    match next {
-        Next::Event(state, item) => Stepped {
-            next: NextItem::Event(item),
-            state,
-        },
-        Next::End(state) => Stepped {
-            next: NextItem::End,
-            state,
-        },
-        Next::Refused(state, why) => Stepped {
-            next: NextItem::Refused(why),
-            state,
-        },
-    }
-}
-
-// The next event, or the end. The state in the caller's record moves on; after a refusal (1 or 3) it is as it was.
-pub fn advance(st: &mut ParserState, buf: &[u8]) -> NextItem
+// The next event, or none at the end. The state in the caller's record moves on; after a refusal (1 or 3) it is as it was.
+pub fn advance(st: &mut ParserState, buf: &[u8]) -> Result<Option<CommentItem>, Refusal>
     ensures { gives result st.new ≡ next_of (named st.old.reading) buf.now st.old }
 {
-    let n = read_step(*st, buf);
-    *st = n.state;
-    n.next
+    let next = st.next(buf)?;
+    *st = next.state;
+    Ok(next.item)
 }
 
 // A buffer, and where a parser of it stands.
@@ -70,7 +34,7 @@ pub struct View<'a> {
 // A view, beside the answer to the span that it was asked for.
 #[derive(Clone, Copy)]
 pub struct Opened<'a> {
-    pub answer: Checked,
+    pub answer: Result<(), Refusal>,
     pub view: View<'a>,
 }
 
@@ -88,14 +52,11 @@ impl<'a> View<'a> {
         }
     }
 
-    // The next event, or the end. The view moves on; after a refusal (1 or 3) it is as it was.
-    pub fn next_item(&mut self) -> NextItem
+    // The next event, or none at the end. The view moves on; after a refusal (1 or 3) it is as it was.
+    pub fn next_item(&mut self) -> Result<Option<CommentItem>, Refusal>
         ensures { (gives result self.new.state ≡ next_of (named self.old.state.reading) self.old.buf.now self.old.state)
             × (self.new.buf ≡ self.old.buf) }
     {
-        let mut state = self.state;
-        let next = advance(&mut state, self.buf);
-        self.state = state;
-        next
+        advance(&mut self.state, self.buf)
     }
 }

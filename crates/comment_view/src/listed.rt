@@ -1,65 +1,45 @@
 // A whole comment read through a view: its event records, in an area that the caller lends.
-ghost use Rattle.std.specs.Prelude.{◌≡◌, length};
+ghost use Rattle.std.specs.Prelude.{◌≡◌, [], ◌∷◌, length};
+ghost use Rattle.std.proofs.Math.Option.{none};
 ghost use Rattle.byte_rules.specs.Reading.{named};
-ghost use Rattle.records.specs.Answer.{filled_answer};
-ghost use Rattle.records.specs.Records.{laid};
-ghost use Rattle.events.specs.Events.{event_width, placed_records, events_answer, events_left};
-ghost use Rattle.comment_view.specs.Listed.{ReadyFor, Lays};
+ghost use Rattle.records.specs.Answer.{longest, filled_answer, span_refusal};
+ghost use Rattle.records.specs.Records.{laid, wrote_of};
+ghost use Rattle.comment_parser.specs.Item.{placed_of};
+ghost use Rattle.comment_parser.specs.Bounds.{Within};
+ghost use Rattle.events.specs.Events.{event_width, placed_words, placed_records, events_answer, events_left};
 
-use crate::{NextItem, View};
+use crate::View;
 use byte_rules::Reading;
+use comment_parser::CommentItem;
 use events::EVENT_WIDTH;
 use lines::fill_lines;
-use records::{Checked, Filled, check_span, lay};
+use records::{FillError, Wrote, check_span, fits, lay};
 
-// Where a listing stands: whether it goes on, the words that it has written, and how many events there were.
-#[derive(Clone, Copy)]
-pub struct Listing {
-    pub going: bool,
-    pub words: usize,
-    pub count: usize,
-}
-
-// Lays a step's event, but for its line, behind the words written, if it fits.
-fn lay_step(done: Listing, next: NextItem, out: &mut [u32]) -> Listing
-    requires { ReadyFor done next out.old }
-    ensures { Lays done next out.old result out.new }
+// Lays an item's record, but for its line, at the front of `room`, if it fits. The crate `events` has this too, but not for others: it asks for
+// numbers that fit a word, and a public function asks nothing.
+fn lay_event(room: &mut [u32], item: CommentItem) -> Wrote
+    requires { Within 0 longest (placed_of item) }
+    ensures wrote { result ≡ wrote_of event_width (placed_words (placed_of item) ∷ []) (length room.old) }
+    ensures left { room.new ≡ laid event_width (placed_words (placed_of item) ∷ []) room.old }
 {
-    let NextItem::Event(item) = next else {
-        return Listing {
-            going: false,
-            words: done.words,
-            count: done.count,
-        };
-    };
     let p = item.placed();
-    let at = done.words;
-    let wrote = lay(
-        &mut out[at..],
+    lay(
+        room,
         &[p.kind, p.place as u32, p.start as u32, p.end as u32, 0],
-    );
-    Listing {
-        going: true,
-        words: at + wrote.words,
-        count: done.count + wrote.count,
-    }
+    )
 }
 
-// Lays the events of a span, but for their lines, and counts them. There are none of a span that is refused.
+// Lays the events of a span that is not refused, but for their lines, and counts them.
 fn lay_by_view(reading: Reading, buf: &[u8], start: usize, end: usize, out: &mut [u32]) -> usize
+    requires { none ≡ span_refusal (length buf.now) start end }
     ensures { (result ≡ length (placed_records (named reading) buf.now start end))
         × (out.new ≡ laid event_width (placed_records (named reading) buf.now start end) out.old) }
 {
-    let opened = View::open(reading, buf, start, end);
-    let mut view = opened.view;
-    let mut done = Listing {
-        going: true,
-        words: 0,
-        count: 0,
-    };
-    while done.going {
-        let next = view.next_item();
-        done = lay_step(done, next, out);
+    let mut view = View::open(reading, buf, start, end).view;
+    let mut done = Wrote::NOTHING;
+    while let Ok(Some(item)) = view.next_item() {
+        let wrote = lay_event(&mut out[done.words..], item);
+        done = done.then(wrote);
     }
     done.count
 }
@@ -72,19 +52,12 @@ pub fn events_by_view(
     start: usize,
     end: usize,
     out: &mut [u32],
-) -> Filled
+) -> Result<usize, FillError>
     ensures answer { filled_answer result ≡ events_answer (named reading) buf.now start end (length out.old) }
     ensures left { out.new ≡ events_left (named reading) buf.now start end out.old }
 {
-    if let Checked::Refused(why) = check_span(buf.len(), start, end) {
-        return Filled::Refused(why);
-    }
-    let most = out.len() / EVENT_WIDTH;
+    check_span(buf.len(), start, end)?;
     let n = lay_by_view(reading, buf, start, end, out);
     fill_lines(buf, n, out);
-    if n <= most {
-        Filled::Done(n)
-    } else {
-        Filled::Short(n)
-    }
+    fits(n, out.len() / EVENT_WIDTH)
 }

@@ -8,8 +8,7 @@ use mathlib.Core.Path.{◌≡◌, refl, sym, ap, ◌∙◌, fun_ext}
 use native.Mathlib.Omega.{arith}
 use lib.Dec.{ltb, eqb}
 use lib.ListN.{length, take}
-use Rattle.basics.specs.declared.Place.{Place}
-use Rattle.basics.specs.declared.Place.TheVariants.{At, Nowhere}
+use Rattle.std.specs.Prelude.{Option as Maybe, Some, None}
 use Rattle.byte_rules.specs.Reading.{Reading}
 use Rattle.byte_rules.specs.declared.reading.Reading.{Reading as Name}
 use Rattle.look.specs.Look.{byte_at, blank_at, doubled_at, word_at}
@@ -20,17 +19,14 @@ use Rattle.scans.specs.declared.Step.{Step}
 use Rattle.records.specs.Answer.{Answer, unless, state_refusal}
 use Rattle.comment_parser.specs.Rules.{after_lf, tick_rule, tilde_rule, math_rule, html_rule, bracket_rule, newline_rule, opens_italic, open_under, under_rule, plain_rule, text_rule, first_rule, step_to, pass_act}
 use Rattle.comment_parser.specs.Pass.{step_of, run_to, at_end, run_start, pass_step, ended_at, pass, run_item}
-use Rattle.comment_parser.specs.Next.{Outcome, refused_as, step_answer, give, read_on, answered, next_of}
+use Rattle.comment_parser.specs.Next.{Outcome, refused_as, given_as, some_event, give, read_on, answered, next_of}
 use Rattle.comment_parser.specs.Events.{left, paired, seen, events_from}
 use Rattle.comment_parser.specs.declared.CommentItem.{CommentItem}
 use Rattle.comment_parser.specs.declared.Act.{Act}
 use Rattle.comment_parser.specs.declared.Act.TheVariants.{One, Two, Ends}
 use Rattle.comment_parser.specs.declared.Next.{Next}
-use Rattle.comment_parser.specs.declared.Next.TheVariants.{Event, End, Refused}
 use Rattle.comment_parser.specs.declared.ParserState.{ParserState}
 use Rattle.comment_parser.specs.declared.Run.{Run}
-use Rattle.comment_parser.specs.declared.Waiting.{Waiting}
-use Rattle.comment_parser.specs.declared.Waiting.TheVariants.{Item, Nothing}
 use Rattle.comment_parser.proofs.Events.{seen_on, events_on, events_end}
 
 -- choices whose arms are those of another choice, under a function
@@ -38,9 +34,9 @@ by_arms : {A B : Type 0} (f : A → B) (t : Bool) {x y : A} {u v : B} → u ≡ 
 by_arms f true p q = p
 by_arms f false p q = q
 
-by_found : {A B : Type 0} (f : A → B) (c : Place) {x : ℕ → A} {y : A} {u : ℕ → B} {v : B} → ((q : ℕ) → u q ≡ f (x q)) → v ≡ f y → elim c [ At q ↦ u q | Nowhere ↦ v ] ≡ f (elim c [ At q ↦ x q | Nowhere ↦ y ])
-by_found f (At q) p n = p q
-by_found f Nowhere p n = n
+by_found : {A B : Type 0} (f : A → B) (c : Maybe ℕ) {x : ℕ → A} {y : A} {u : ℕ → B} {v : B} → ((q : ℕ) → u q ≡ f (x q)) → v ≡ f y → elim c [ Some q ↦ u q | None ↦ v ] ≡ f (elim c [ Some q ↦ x q | None ↦ y ])
+by_found f (Some q) p n = p q
+by_found f None p n = n
 
 module _ (name : Name) where
   -- a state under that name, and what is made of one
@@ -56,9 +52,7 @@ module _ (name : Name) where
   called_run r = run_to r.end (called r.after)
 
   abbrev called_next : Next → Next
-  called_next (Event t i) = Event (called t) i
-  called_next (End t) = End (called t)
-  called_next (Refused t r) = Refused (called t) r
+  called_next n = record { state = called n.state; item = n.item }
 
   abbrev called_seen : Option (CommentItem × ParserState) → Option (CommentItem × ParserState)
   called_seen none = none
@@ -163,24 +157,18 @@ module _ (name : Name) where
 
   give_called : (t : ParserState) → give (called t) ≡ called_next (give t)
   unfolding give
-  give_called t = go t.waiting
-    where
-      go : (w : Waiting)
-          → elim w [ Item i ↦ Event (record { reading = name; end = t.end; pos = t.pos; math = t.math; html = t.html; waiting = Nothing; end_italic = t.end_italic; end_subscript = t.end_subscript }) i | Nothing ↦ End (called t) ]
-          ≡ called_next (elim w [ Item i ↦ Event (record { reading = t.reading; end = t.end; pos = t.pos; math = t.math; html = t.html; waiting = Nothing; end_italic = t.end_italic; end_subscript = t.end_subscript }) i | Nothing ↦ End t ])
-      go (Item i) = refl
-      go Nothing = refl
+  give_called t = refl
 
   module _ (rd : Reading) where
-    run_given : (from : ℕ) (item : ℕ → CommentItem) (r : Run) → elim (ltb from r.end) [ true ↦ Event (called r.after) (item r.end) | false ↦ give (called r.after) ]
-        ≡ called_next (elim (ltb from r.end) [ true ↦ Event r.after (item r.end) | false ↦ give r.after ])
+    run_given : (from : ℕ) (item : ℕ → CommentItem) (r : Run) → elim (ltb from r.end) [ true ↦ some_event (called r.after) (item r.end) | false ↦ give (called r.after) ]
+        ≡ called_next (elim (ltb from r.end) [ true ↦ some_event r.after (item r.end) | false ↦ give r.after ])
     run_given from item r = by_arms called_next (ltb from r.end) refl (give_called r.after)
 
     read_called : (s : List ℕ) (st : ParserState) → read_on rd s (called st) ≡ called_next (read_on rd s st)
     unfolding read_on run_start run_item
     read_called s st =
         let from = run_start s st in
-        ap (λ (r : Run). elim (ltb from r.end) as (λ _. Next) [ true ↦ Event r.after (run_item st from r.end) | false ↦ give r.after ]) (pass_called rd s st from)
+        ap (λ (r : Run). elim (ltb from r.end) as (λ _. Next) [ true ↦ some_event r.after (run_item st from r.end) | false ↦ give r.after ]) (pass_called rd s st from)
         ∙ run_given from (run_item st from) (pass rd s st from)
 
     module _ (buf : List ℕ) (st : ParserState) where
@@ -188,26 +176,25 @@ module _ (name : Name) where
       unfolding answered
       answered_called = go st.waiting
         where
-          go : (w : Waiting) → elim w [ Item i ↦ give (called st) | Nothing ↦ read_on rd (take st.end buf) (called st) ] ≡ called_next (elim w [ Item i ↦ give st | Nothing ↦ read_on rd (take st.end buf) st ])
-          go (Item i) = give_called st
-          go Nothing = read_called (take st.end buf) st
+          go : (w : Maybe CommentItem) → elim w [ Some i ↦ give (called st) | None ↦ read_on rd (take st.end buf) (called st) ] ≡ called_next (elim w [ Some i ↦ give st | None ↦ read_on rd (take st.end buf) st ])
+          go (Some i) = give_called st
+          go None = read_called (take st.end buf) st
 
-      paired_called : (n : Next) → paired (step_answer (called_next n)).event (step_answer (called_next n)).state ≡ called_seen (paired (step_answer n).event (step_answer n).state)
-      paired_called (Event t i) = refl
-      paired_called (End t) = refl
-      paired_called (Refused t r) = refl
+      paired_called : (o : Maybe CommentItem) (t : ParserState) → paired o (called t) ≡ called_seen (paired o t)
+      paired_called (Some i) t = refl
+      paired_called None t = refl
 
       seen_called : seen rd buf (called st) ≡ called_seen (seen rd buf st)
       unfolding seen next_of
       seen_called =
           let r = state_refusal (length buf) st.pos st.end in
-          ap (λ (n : Next). let u : Outcome = unless r (refused_as (called st)) (step_answer n) in paired u.event u.state) answered_called ∙ go r
+          ap (λ (n : Next). let u : Outcome = unless r (refused_as (called st)) (given_as n) in paired u.event u.state) answered_called ∙ go r
         where
           go : (o : Option Answer)
-              → let u : Outcome = unless o (refused_as (called st)) (step_answer (called_next (answered rd buf st))) in
-              let v : Outcome = unless o (refused_as st) (step_answer (answered rd buf st)) in
+              → let u : Outcome = unless o (refused_as (called st)) (given_as (called_next (answered rd buf st))) in
+              let v : Outcome = unless o (refused_as st) (given_as (answered rd buf st)) in
               paired u.event u.state ≡ called_seen (paired v.event v.state)
-          go none = paired_called (answered rd buf st)
+          go none = paired_called (answered rd buf st).item (answered rd buf st).state
           go (some a) = refl
 
     -- the events from a state on

@@ -1,13 +1,14 @@
 -- What a pass in the strict reading ends in, from each place of the grammar: shown rule by rule, then of the pass.
 -- Assumes nothing.
 use Prim.Native.Nat.{ℕ, ◌+◌, ◌-◌, ◌≤◌, ◌<◌}
-use mathlib.Core.Bool.{Bool, true, false}
+use mathlib.Core.Bool.{true, false}
 use mathlib.Core.List.{List}
 use mathlib.Core.Path.{◌≡◌, refl, ◌∙◌}
 use native.Mathlib.Nat.{le_refl}
 use native.Mathlib.Omega.{arith}
 use lib.Dec.{eqb}
 use lib.ListN.{length, take, drop}
+use Rattle.std.specs.Prelude.{Some, None}
 use Rattle.basics.proofs.Laws.{by_test, by_place}
 use Rattle.byte_rules.specs.Reading.{strict}
 use Rattle.look.specs.Look.{byte_at, blank_at, doubled_at, word_at}
@@ -21,7 +22,6 @@ use Rattle.comment_parser.specs.Rules.{after_lf, label_item, tick_rule, tilde_ru
 use Rattle.comment_parser.specs.Pass.{pass, run_item}
 use Rattle.comment_parser.specs.declared.CommentItem.{CommentItem}
 use Rattle.comment_parser.specs.declared.CommentItem.TheVariants.{Text, MathToken}
-use Rattle.comment_parser.specs.declared.Waiting.TheVariants.{Item, Nothing}
 use Rattle.comment_parser.specs.declared.ParserState.{ParserState}
 use Rattle.comment_parser.specs.declared.Act.{Act}
 use Rattle.comment_parser.specs.declared.Run.{Run}
@@ -66,29 +66,21 @@ pub data Both (m : Mode) (d c : CommentItem) (n : Mode) : Type 0 where
 -- a pass from the state st, which stands at m, whose run begins at `from`, ends its run at q and leaves the state t
 module _ (s : List ℕ) (m : Mode) (st : ParserState) (from q : ℕ) (t : ParserState) where
   pub data Passed : Type 0 where
-    unmarked : t.waiting ≡ Nothing → (from < q → Goes m (run_item st from q) m) → Stands s m t → Final m → Passed
-    marked : {c : CommentItem} {n : Mode} → t.waiting ≡ Item c → (from < t.pos → Stands s n t) → (q ≤ from → Goes m c n) → (from < q → Both m (run_item st from q) c n) → Passed
+    unmarked : t.waiting ≡ None → (from < q → Goes m (run_item st from q) m) → Stands s m t → Final m → Passed
+    marked : {c : CommentItem} {n : Mode} → t.waiting ≡ Some c → (from < t.pos → Stands s n t) → (q ≤ from → Goes m c n) → (from < q → Both m (run_item st from q) c n) → Passed
 
 abbrev pub RunPassed : List ℕ → Mode → ParserState → ℕ → Run → Type 0
 RunPassed s m st from r = Passed s m st from r.end r.after
 
 -- a run is a Text outside math, a MathToken in math
-text_cases : (b : Bool) (x y : CommentItem) → b ≡ false → elim b [ true ↦ x | false ↦ y ] ≡ y
-text_cases true x y e = clash e refl
-text_cases false x y e = refl
-
-token_cases : (b : Bool) (x y : CommentItem) → b ≡ true → elim b [ true ↦ x | false ↦ y ] ≡ x
-token_cases true x y e = refl
-token_cases false x y e = clash refl e
-
 module _ (st : ParserState) (from q : ℕ) where
   pub text_run : st.math ≡ false → run_item st from q ≡ Text (span from q)
   unfolding run_item
-  text_run m = text_cases st.math (MathToken (span from q)) (Text (span from q)) m
+  text_run m = by_test (λ c. c ≡ Text (span from q)) st.math (λ t. clash m t) (λ _. refl)
 
   token_run : st.math ≡ true → run_item st from q ≡ MathToken (span from q)
   unfolding run_item
-  token_run m = token_cases st.math (MathToken (span from q)) (Text (span from q)) m
+  token_run m = by_test (λ c. c ≡ MathToken (span from q)) st.math (λ _. refl) (λ t. clash t m)
 
 -- OUTSIDE
 
@@ -102,11 +94,11 @@ module _ (s : List ℕ) (st : ParserState) (from : ℕ) (o : Outside s st) (belo
   out_run : (q : ℕ) → Goes outside (run_item st from q) outside
   out_run q = rw (text_run st from q o.math_off) (alone Alone.text)
 
-  by_mark : (q : ℕ) (t : ParserState) {c : CommentItem} {n : Mode} → Goes outside c n → t.waiting ≡ Item c → (from < t.pos → Stands s n t) → Passed s outside st from q t
+  by_mark : (q : ℕ) (t : ParserState) {c : CommentItem} {n : Mode} → Goes outside c n → t.waiting ≡ Some c → (from < t.pos → Stands s n t) → Passed s outside st from q t
   by_mark q t g w i = marked w i (λ _. g) (λ _. both (out_run q) g)
 
   -- an event alone
-  by_alone : (q : ℕ) (t : ParserState) {c : CommentItem} → Alone c → t.waiting ≡ Item c → t.math ≡ st.math → t.end_subscript ≡ st.end_subscript → t.end_italic ≡ st.end_italic → Passed s outside st from q t
+  by_alone : (q : ℕ) (t : ParserState) {c : CommentItem} → Alone c → t.waiting ≡ Some c → t.math ≡ st.math → t.end_subscript ≡ st.end_subscript → t.end_italic ≡ st.end_italic → Passed s outside st from q t
   by_alone q t a w m e f = by_mark q t (alone a) w (λ l. record { math_off = m ∙ o.math_off; loose = later s o.loose t e f (omega arith) })
 
   module _ (p : ℕ) (h : from ≤ p) (l : p < length s) where
@@ -206,7 +198,7 @@ module _ (s : List ℕ) (st : ParserState) (from : ℕ) (o : InMath s st) (below
   math_run q = rw (token_run st from q o.math_on) token
 
   -- the run ends, and no event follows
-  math_unmarked : (q p : ℕ) → from ≤ p → Passed s in_math_case st from q (moved st p Nothing)
+  math_unmarked : (q p : ℕ) → from ≤ p → Passed s in_math_case st from q (moved st p None)
   math_unmarked q p h = unmarked refl (λ _. math_run q) (record { math_on = o.math_on; loose = later s o.loose _ refl refl (omega arith) }) final_math
 
   module _ (p : ℕ) (h : from ≤ p) (l : p < length s) where

@@ -9,11 +9,11 @@ use native.Mathlib.Omega.{arith}
 use borrow.Author.Tests.{ne_eqb}
 use lib.Dec.{eqb}
 use lib.ListN.{length}
+use Rattle.std.specs.Prelude.{None}
 use Rattle.byte_rules.specs.declared.reading.Reading.{Reading as Name}
 use Rattle.records.specs.Answer.{longest}
 use Rattle.comment_parser.specs.State.{fresh, moved, no_italic}
 use Rattle.comment_parser.specs.declared.ParserState.{ParserState}
-use Rattle.comment_parser.specs.declared.Waiting.TheVariants.{Nothing}
 use Rattle.strict.proofs.Grammar.{Mode, outside, in_italic, in_math_case, behind_start, behind_text}
 use Rattle.strict.proofs.Texts.{SubscriptText, ItalicText}
 
@@ -61,7 +61,7 @@ module _ (s : List ℕ) where
   later o t e f h = record { past_subscript = omega (arith, o.past_subscript); no_italic_case = λ p a l. rw f (o.no_italic_case p (omega arith) l) }
 
   -- what waits does not matter
-  pub idle : (m : Mode) (t : ParserState) → Stands m t → Stands m (moved t t.pos Nothing)
+  pub idle : (m : Mode) (t : ParserState) → Stands m t → Stands m (moved t t.pos None)
   idle outside t i = record { math_off = i.math_off; loose = record { past_subscript = i.loose.past_subscript; no_italic_case = i.loose.no_italic_case } }
   idle in_math_case t i = record { math_on = i.math_on; loose = record { past_subscript = i.loose.past_subscript; no_italic_case = i.loose.no_italic_case } }
   idle in_italic t i = record { math_off = i.math_off; html_off = i.html_off; past_subscript = i.past_subscript; text = i.text }

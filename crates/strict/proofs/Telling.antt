@@ -1,22 +1,22 @@
 -- The events of a span in the strict reading, told pass by pass: `told`.
 -- Assumes nothing.
 use Prim.Native.Nat.{ℕ, ◌≤◌}
-use mathlib.Core.Bool.{Bool, true, false}
+use mathlib.Core.Bool.{false}
 use mathlib.Core.List.{List, ◌∷◌}
 use mathlib.Core.Path.{◌≡◌, refl}
 use native.Mathlib.Omega.{arith}
 use lib.ListN.{length, take}
 use lib.Seq.{length-take-le}
+use Rattle.std.specs.Prelude.{None}
 use Rattle.byte_rules.specs.Reading.{strict}
+use Rattle.basics.proofs.Laws.{by_test}
 use Rattle.records.specs.Answer.{longest}
-use Rattle.scans.specs.Ends.{blanks_end}
 use Rattle.scans.proofs.Laws.{clash}
 use Rattle.comment_parser.specs.State.{moved}
 use Rattle.comment_parser.specs.Pass.{run_start, pass, run_item}
 use Rattle.comment_parser.specs.Events.{events_of}
 use Rattle.comment_parser.specs.declared.CommentItem.{CommentItem}
 use Rattle.comment_parser.specs.declared.ParserState.{ParserState}
-use Rattle.comment_parser.specs.declared.Waiting.TheVariants.{Nothing}
 use Rattle.comment_parser.proofs.Laws.{run_start_le, run_start_clean}
 use Rattle.comment_parser.proofs.Progress.{After, pass_after}
 use Rattle.comment_parser.proofs.Turns.{run_start_ge, past_waiting}
@@ -27,13 +27,9 @@ use Rattle.strict.proofs.Passes.{Both, both, Passed, unmarked, marked, RunPassed
 use Rattle.strict.proofs.Within.{italic_pass, sub_pass}
 
 -- outside math a run starts where the reader stands
-start_cases : (b : Bool) (x y : ℕ) → b ≡ false → elim b [ true ↦ x | false ↦ y ] ≡ y
-start_cases true x y e = clash e refl
-start_cases false x y e = refl
-
 start_is : (s : List ℕ) (st : ParserState) → st.math ≡ false → run_start s st ≡ st.pos
 unfolding run_start
-start_is s st m = start_cases st.math (blanks_end s st.pos) st.pos m
+start_is s st m = by_test (λ x. x ≡ st.pos) st.math (λ t. clash m t) (λ _. refl)
 
 -- a pass, from wherever the reader stands
 pass_passed : (s : List ℕ) (m : Mode) (st : ParserState) → Stands s m st → st.pos ≤ length s → RunPassed s m st (run_start s st) (pass strict s st (run_start s st))
@@ -45,7 +41,7 @@ pass_passed s (behind_text q) st i h = absurd i
 
 -- what the grammar says of it
 module _ (s : List ℕ) {m : Mode} {st : ParserState} {from q : ℕ} (t : ParserState) (o : After s st from q t) where
-  pair : {c : CommentItem} (n : Mode) → Both m (run_item st from q) c n → Stands s n t → telling.Follows (Stands s) Told m (moved t t.pos Nothing) (λ es. run_item st from q ∷ c ∷ es)
+  pair : {c : CommentItem} (n : Mode) → Both m (run_item st from q) c n → Stands s n t → telling.Follows (Stands s) Told m (moved t t.pos None) (λ es. run_item st from q ∷ c ∷ es)
   pair n (both g h) i = record { to = n; stands = idle s n t i; tells = λ es a. event g (event h a) }
 
   followed : Passed s m st from q t → telling.Passed (Stands s) Told m st from q t

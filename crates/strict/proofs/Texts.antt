@@ -9,18 +9,17 @@ use native.Mathlib.Omega.{arith}
 use borrow.Author.Tests.{ltb-true}
 use lib.Dec.{ltb}
 use lib.ListN.{get_or, length}
+use Rattle.std.specs.Prelude.{Some}
 use Rattle.byte_rules.specs.Classes.{is_blank, is_closer, is_alphanumeric}
 use Rattle.byte_rules.specs.Reading.{is_mark, strict}
 use Rattle.byte_rules.proofs.Laws.{lf_is_blank, four_marks, no_mark, under_is_closer, no_letters}
-use Rattle.basics.proofs.Laws.{differ, neither}
+use Rattle.basics.proofs.Laws.{differ, both, neither, by_test}
 use Rattle.look.specs.Look.{holds_at, byte_at, blank_at, closer_at, alphanumeric_at, doubled_at}
 use Rattle.look.proofs.Laws.{holds_in, byte_test, byte_other, not_byte, other_byte, doubled_not, alphanumeric_within}
 use Rattle.scans.specs.Marks.{tick, tilde, lbracket, under, less, lf}
 use Rattle.scans.specs.Ends.{subscript_step, italic_step, subscript_stop, subscript_end, italic_stop, italic_end, closes_italic}
-use Rattle.basics.specs.declared.Place.TheVariants.{At, Nowhere}
-use Rattle.scans.specs.declared.Step.TheVariants.{One, Stop}
 use Rattle.scans.proofs.EndLaws.{found}
-use Rattle.scans.proofs.Laws.{Leads, by_one, stops, scanned, by_less, clash, scan_one, scan_two, scan_stop, scan_ge, scan_le}
+use Rattle.scans.proofs.Laws.{Leads, by_one, stops, scanned, by_less, scan_one, scan_two, scan_stop, scan_ge, scan_le}
 
 -- BYTES
 
@@ -56,15 +55,6 @@ module _ (s : List ℕ) (k : ℕ) where
         no_less = byte_other s k under less t (λ z. omega arith);
       }
 
-none_of : (a b c : Bool) → (a || b || c) ≡ false → (a ≡ false) × (b ≡ false) × (c ≡ false)
-none_of true b c h = clash h refl
-none_of false true c h = clash h refl
-none_of false false c h = (refl, refl, h)
-
-first_of : (a b c : Bool) → (a && b && c) ≡ true → a ≡ true
-first_of true b c h = refl
-first_of false b c h = h
-
 -- SUBSCRIPTS
 
 pub record SubscriptByte (s : List ℕ) (k : ℕ) : Type 0 where
@@ -76,8 +66,9 @@ module _ (s : List ℕ) (i : ℕ) where
   subscript_byte : (k : ℕ) → (blank_at s k || closer_at s k || holds_at is_mark s k) ≡ false → SubscriptByte s k
   unfolding blank_at closer_at
   subscript_byte k h =
-      let f = none_of (blank_at s k) (closer_at s k) (holds_at is_mark s k) h in
-      record { free = barless s k f.2; no_lf = not_byte s k is_blank lf lf_is_blank f.0; no_under = not_byte s k is_closer under under_is_closer f.1 }
+      let f = neither (blank_at s k || closer_at s k) (holds_at is_mark s k) h in
+      let g = neither (blank_at s k) (closer_at s k) f.0 in
+      record { free = barless s k f.1; no_lf = not_byte s k is_blank lf lf_is_blank g.0; no_under = not_byte s k is_closer under under_is_closer g.1 }
 
   abbrev AllSubscript : ℕ → Type 0
   AllSubscript j = (k : ℕ) → i ≤ k → k < j → SubscriptByte s k
@@ -85,13 +76,10 @@ module _ (s : List ℕ) (i : ℕ) where
   one_more : (j : ℕ) → AllSubscript j → SubscriptByte s j → AllSubscript (j + 1)
   one_more j f t k a l = by_less k j (λ g. f k a g) (λ g. let z : k ≡ j = omega arith in rw z t)
 
-  subscript_cases : (j : ℕ) (t : Bool) → (t ≡ false → SubscriptByte s j) → AllSubscript j → Leads AllSubscript AllSubscript j (elim t [ true ↦ Stop | false ↦ One ])
-  subscript_cases j true e f = stops f
-  subscript_cases j false e f = by_one (one_more j f (e refl))
-
   subscript_leads : (j : ℕ) → AllSubscript j → j < length s → Leads AllSubscript AllSubscript j (subscript_step strict s j)
   unfolding subscript_step
-  subscript_leads j f l = subscript_cases j (blank_at s j || closer_at s j || holds_at is_mark s j) (subscript_byte j) f
+  subscript_leads j f l =
+      by_test (Leads AllSubscript AllSubscript j) (blank_at s j || closer_at s j || holds_at is_mark s j) (λ _. stops f) (λ e. by_one (one_more j f (subscript_byte j e)))
 
   subscript_all : AllSubscript (subscript_stop strict s i)
   subscript_all =
@@ -104,7 +92,7 @@ pub record SubscriptText (s : List ℕ) (i q : ℕ) : Type 0 where
   pub inside : q ≤ length s
   pub bytes : (k : ℕ) → i ≤ k → k < q → SubscriptByte s k
 
-pub subscript_text : (s : List ℕ) (i q : ℕ) → subscript_end strict s i ≡ At q → SubscriptText s i q
+pub subscript_text : (s : List ℕ) (i q : ℕ) → subscript_end strict s i ≡ Some q → SubscriptText s i q
 unfolding subscript_end
 subscript_text s i q h =
     let j = subscript_stop strict s i in
@@ -159,19 +147,17 @@ module _ (s : List ℕ) (i : ℕ) (t : alphanumeric_at s i ≡ true) where
       let h = alphanumeric_within s i t in
       scan_one (italic_step strict s) (length s) i h (rw (italic_step, doubled_not s i under not_under, not_under, unbarred s i h first_barless))
 
-  closes : (q : ℕ) → closes_italic s (italic_stop strict s (i + 1)) ≡ At q → ItalicText s i q
+  closes : (q : ℕ) → closes_italic s (italic_stop strict s (i + 1)) ≡ Some q → ItalicText s i q
   unfolding closes_italic
   closes q e =
       let j = italic_stop strict s (i + 1) in
       let f = found (byte_at s j under && alphanumeric_at s (j - 1) && not (alphanumeric_at s (j + 1))) j q e in
+      let k = both (byte_at s j under) (alphanumeric_at s (j - 1)) (both _ (not (alphanumeric_at s (j + 1))) f.0).0 in
       let h = alphanumeric_within s i t in
       let g : i + 1 ≤ j = scan_ge (italic_step strict s) (length s) (i + 1) (i + 1) (le_refl (i + 1)) (omega arith) in
-      record { ends = first_one ∙ f.1; up = omega (arith, f.1); closed = rw f.1 at (first_of (byte_at s j under) (alphanumeric_at s (j - 1)) (not (alphanumeric_at s (j + 1))) f.0) }
+      record { ends = first_one ∙ f.1; up = omega (arith, f.1); closed = rw f.1 at k.0 }
 
-italic_cases : (s : List ℕ) (i q : ℕ) (b : Bool) → alphanumeric_at s i ≡ b → elim b [ true ↦ closes_italic s (italic_stop strict s (i + 1)) | false ↦ Nowhere ] ≡ At q → ItalicText s i q
-italic_cases s i q true t h = closes s i t q h
-italic_cases s i q false t h = absurd (differ cc)
-
-pub italic_text : (s : List ℕ) (i q : ℕ) → italic_end strict s i ≡ At q → ItalicText s i q
+pub italic_text : (s : List ℕ) (i q : ℕ) → italic_end strict s i ≡ Some q → ItalicText s i q
 unfolding italic_end
-italic_text s i q h = italic_cases s i q (alphanumeric_at s i) refl h
+italic_text s i q =
+    by_test (λ o. o ≡ Some q → ItalicText s i q) (alphanumeric_at s i) (λ t h. closes s i t q h) (λ _ h. absurd (differ cc))
