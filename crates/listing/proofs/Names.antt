@@ -1,4 +1,4 @@
--- The tables of names in the code hold the name of each kind.
+-- The names of the kinds, end to end in the order of the kinds' numbers, with where each of them ends: between two ends stands the name of a kind.
 -- Assumes nothing.
 use Prim.Native.Nat.{ℕ, ◌-◌, ◌≤◌}
 use mathlib.Core.Path.{◌≡◌, refl}

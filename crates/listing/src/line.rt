@@ -1,35 +1,44 @@
 // A line of the listing.
+ghost use Rattle.std.specs.Prelude.{◌≡◌};
 ghost use Rattle.programs.specs.Output.{Gathers};
-ghost use Rattle.listing.specs.Listing.{event_line};
+ghost use Rattle.listing.specs.Listing.{name_of, event_line};
 
-use comment_parser::CommentItem;
+use comment_parser::{CommentItem, Placed};
 use programs::Output;
 
-// The names of the kinds, end to end, in the order of the kinds' numbers.
-const NAMES: [u8; 122] =
-    *b"TextLineBreakStartMathModeEndMathModeMathTokenLabelUrlStartHtmlEndHtmlStartSubscriptEndSubscriptStartItalicEndItalicBibTag";
-
-// Where each name ends, and 0 ahead of the first.
-const ENDS: [usize; 15] = [0, 4, 13, 26, 37, 46, 51, 54, 63, 70, 84, 96, 107, 116, 122];
+// The name of an event's kind.
+fn name_of(item: CommentItem) -> &'static [u8]
+    ensures { result.now ≡ name_of item }
+{
+    match item {
+        CommentItem::Text(_) => b"Text",
+        CommentItem::LineBreak(_) => b"LineBreak",
+        CommentItem::StartMathMode(_) => b"StartMathMode",
+        CommentItem::EndMathMode(_) => b"EndMathMode",
+        CommentItem::MathToken(_) => b"MathToken",
+        CommentItem::Label(_, _) => b"Label",
+        CommentItem::Url(_, _) => b"Url",
+        CommentItem::StartHtml(_) => b"StartHtml",
+        CommentItem::EndHtml(_) => b"EndHtml",
+        CommentItem::StartSubscript(_) => b"StartSubscript",
+        CommentItem::EndSubscript(_) => b"EndSubscript",
+        CommentItem::StartItalic(_) => b"StartItalic",
+        CommentItem::EndItalic(_) => b"EndItalic",
+        CommentItem::BibTag(_) => b"BibTag",
+    }
+}
 
 // The line of an event: the name of its kind, its place, start and end, and the number of the line that its place lies in.
-pub(crate) fn put_line(
-    output: Output,
-    buffer: &mut [u8],
-    item: CommentItem,
-    number: usize,
-) -> Output
-    ensures { Gathers (event_line item number) output buffer.old result buffer.new }
+#[tactic(auto, unfolding(crate::specs::Listing::event_line))]
+pub(crate) fn put_line<const N: usize>(output: &mut Output<N>, item: CommentItem, line: usize)
+    ensures { Gathers (event_line item line) output.old output.new }
 {
-    let names = NAMES;
-    let ends = ENDS;
-    let placed = item.placed();
-    let kind = placed.kind as usize;
-    let from = ends[kind - 1];
-    let to = ends[kind];
-    let place = placed.place as u64;
-    let start = placed.start as u64;
-    let end = placed.end as u64;
-    let line = number as u64;
-    output.line(buffer, &names[from..to], &[place, start, end, line])
+    let Placed {
+        kind: _,
+        place,
+        start,
+        end,
+    } = item.placed();
+    let numbers = [place as u64, start as u64, end as u64, line as u64];
+    output.line(name_of(item), &numbers);
 }

@@ -1,4 +1,4 @@
+mod Asked
 pub mod Gathering
 mod Digits
 mod Listed
-mod Read

@@ -1,110 +1,87 @@
-// Standard output, gathered in a buffer that the program lends, and written a buffer at a time.
-ghost use Rattle.std.specs.Prelude.{◌≡◌, true, [], ◌∷◌, pos};
+// Standard output, gathered in a buffer, and written a buffer at a time.
+ghost use Rattle.std.specs.Prelude.{◌≡◌, [], ◌∷◌, IsOk, Ok};
 ghost use Rattle.decimal.specs.Decimal.{decimal};
 ghost use Rattle.programs.specs.Output.{Gathers};
 
-use crate::Output;
-use crate::reading::error_number;
 use decimal::put_number;
-use std::io::Stdout;
+use std::io::{Result, Stdout};
 
-// Writes the bytes, unless a write failed before. As many bytes wait as did.
-fn write(output: Output, bytes: &[u8]) -> Output
-    ensures good { result.good ≡ true → output.good ≡ true }
-    ensures used { result.used ≡ output.used }
-{
-    if !output.good {
-        return output;
-    }
-    match output.stdout.write_all(bytes) {
-        Ok(()) => output,
-        Err(error) => Output {
-            stdout: output.stdout,
-            used: output.used,
-            good: false,
-            error: error_number(&error),
-        },
-    }
+// Standard output. The buffer is fixed, since there is no heap: the bytes at its front wait to be written, and every write went well so far, or one failed with this error.
+#[derive(Drop)]
+pub struct Output<const N: usize> {
+    pub stdout: Stdout,
+    pub buffer: [u8; N],
+    pub used: usize,
+    pub so_far: Result<()>,
 }
 
-impl Output {
-    pub fn new(stdout: Stdout) -> Output
-        ensures { result ≡ record { stdout = stdout; used = 0; good = true; error = pos 0 } }
+// Writes the bytes, unless a write failed before.
+fn write(so_far: Result<()>, stdout: Stdout, bytes: &[u8]) -> Result<()>
+    ensures { IsOk result → IsOk so_far }
+{
+    so_far?;
+    stdout.write_all(bytes)
+}
+
+impl<const N: usize> Output<N> {
+    pub fn new(stdout: Stdout) -> Self
+        ensures stdout { result.stdout ≡ stdout }
+        ensures empty { result.used ≡ 0 }
+        ensures so_far { result.so_far ≡ Ok tt }
     {
         Output {
             stdout,
+            buffer: [0; N],
             used: 0,
-            good: true,
-            error: 0,
-        }
-    }
-
-    // The output, with so many bytes that wait.
-    fn with_waiting(self, used: usize) -> Output
-        ensures good { result.good ≡ self.good }
-        ensures used { result.used ≡ used }
-    {
-        Output {
-            stdout: self.stdout,
-            used,
-            good: self.good,
-            error: self.error,
+            so_far: Ok(()),
         }
     }
 
     // One byte more. A full buffer is written first; where the buffer has no bytes at all, the byte is written.
-    pub fn byte(self, buffer: &mut [u8], b: u8) -> Output
-        ensures { Gathers (b ∷ []) self buffer.old result buffer.new }
+    pub fn byte(&mut self, b: u8)
+        ensures { Gathers (b ∷ []) self.old self.new }
     {
-        let used = self.used;
-        if used < buffer.len() {
-            buffer[used] = b;
-            return self.with_waiting(used + 1);
+        if self.used < N {
+            self.buffer[self.used] = b;
+            self.used += 1;
+            return;
         }
-        let written = write(self, buffer);
-        if buffer.len() == 0 {
-            return write(written, &[b]).with_waiting(0);
+        self.so_far = write(self.so_far, self.stdout, &self.buffer);
+        if N == 0 {
+            self.so_far = write(self.so_far, self.stdout, &[b]);
+            self.used = 0;
+        } else {
+            self.buffer[0] = b;
+            self.used = 1;
         }
-        buffer[0] = b;
-        written.with_waiting(1)
     }
 
-    pub fn text(self, buffer: &mut [u8], text: &[u8]) -> Output
-        ensures { Gathers text.now self buffer.old result buffer.new }
+    pub fn text(&mut self, text: &[u8])
+        ensures { Gathers text.now self.old self.new }
     {
-        let mut output = self;
-        let mut i = 0;
-        while i < text.len() {
-            output = output.byte(buffer, text[i]);
-            i += 1;
+        for b in text {
+            self.byte(*b);
         }
-        output
     }
 
-    // A number in digits.
-    pub fn number(self, buffer: &mut [u8], n: u64) -> Output
-        ensures { Gathers (decimal n) self buffer.old result buffer.new }
+    // A number in digits: 20 are those of the largest.
+    pub fn number(&mut self, n: u64)
+        ensures { Gathers (decimal n) self.old self.new }
     {
         let mut digits = [0u8; 20];
         let len = put_number(&mut digits, n);
-        self.text(buffer, &digits[..len])
-    }
-
-    // Writes what waits. It is as before, but for what became of the write.
-    pub fn written(self, buffer: &[u8]) -> Output
-        ensures { result.good ≡ true → self.good ≡ true }
-    {
-        let used = self.used;
-        if used < buffer.len() {
-            return write(self, &buffer[..used]);
-        }
-        write(self, buffer)
+        self.text(&digits[..len]);
     }
 
     // Writes what waits. Says whether every write went well: it did not if an earlier one failed.
-    pub fn flush(self, buffer: &[u8]) -> bool
-        ensures { result ≡ true → self.good ≡ true }
+    pub fn flush(&mut self) -> Result<()>
+        ensures good { IsOk result → IsOk self.old.so_far }
+        ensures so_far { result ≡ self.new.so_far }
+        ensures empty { self.new.used ≡ 0 }
     {
-        self.written(buffer).good
+        let used = self.used.min(N);
+        self.so_far = write(self.so_far, self.stdout, &self.buffer[..used]);
+        self.used = 0;
+        self.so_far
     }
 }

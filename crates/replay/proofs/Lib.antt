@@ -1,3 +1,2 @@
 pub mod Hex
 pub mod Rooms
-pub mod Standing

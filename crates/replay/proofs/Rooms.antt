@@ -1,28 +1,15 @@
--- The room of a text call, filled with its pattern: a turn (pattern_step), its length (pattern_long), and the end (pattern_all).
+-- A room that is filled with its pattern: a turn (pattern_step), and the end (pattern_all).
 -- Assumes nothing.
-use Prim.Native.Nat.{ℕ, zero, suc, ◌+◌, ◌%◌, ◌≤◌, ◌<◌}
-use mathlib.Core.Path.{◌≡◌, refl, sym, ◌∙◌}
-use mathlib.Core.List.{List, [], ◌∷◌, append-nil}
-use native.Mathlib.Omega.{arith}
+use Rattle.std.proofs.Common.{◌≡◌, ℕ, ◌+◌, ◌<◌, List, length, take, arith, sym, ◌∙◌}
 use native.Mathlib.Numerals.{add-one}
-use lib.ListN.{length, set, length-append, drop_of_length-le}
-use Rattle.records.specs.Over.{over}
-use Rattle.records.proofs.Over.{over_long, over_more}
+use lib.ListN.{set}
+use lib.Seq.{take-suc-set, take_all}
 use Rattle.replay.specs.Pattern.{pattern_to}
 
-pub length_pattern : (n : ℕ) → length (pattern_to n) ≡ n
-unfolding pattern_to
-length_pattern zero = refl
-length_pattern (suc n) = omega (arith, length-append (pattern_to n) ((n % 255 + 1) ∷ []), length_pattern n)
-
-module _ (room₀ room : List ℕ) (i : ℕ) (is : room ≡ over (pattern_to i) room₀) where
-  pub pattern_long : i ≤ length room₀ → length room ≡ length room₀
-  pattern_long h = over_long (pattern_to i) room₀ room (omega (arith, length_pattern i)) is
-
-  pub pattern_step : (b : ℕ) → i < length room₀ → b ≡ i % 255 + 1 → set room i b ≡ over (pattern_to (i + 1)) room₀
+module _ {A : Type 0} (at : ℕ → A) (room : List A) (i : ℕ) (is : take i room ≡ pattern_to at i) where
+  pub pattern_step : (b : A) → i < length room → b ≡ at i → take (i + 1) (set room i b) ≡ pattern_to at (i + 1)
   unfolding pattern_to
-  pattern_step b h e = rw (is, e, add-one i) (over_more (pattern_to i) room₀ (i % 255 + 1) i (sym (length_pattern i)) h)
+  pattern_step b h e = rw (add-one i, take-suc-set room i b h, is, e)
 
-  pub pattern_all : i ≡ length room₀ → room ≡ pattern_to (length room₀)
-  unfolding over
-  pattern_all h = is ∙ rw (length_pattern, drop_of_length-le room₀ {i = i} (omega arith), append-nil, h)
+  pub pattern_all : (n : ℕ) → i ≡ n → length room ≡ n → room ≡ pattern_to at n
+  pattern_all n e h = rw (← e) (sym (take_all i room (omega arith)) ∙ is)

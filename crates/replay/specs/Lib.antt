@@ -1,4 +1,3 @@
 pub mod Headers
 pub mod Hex
 pub mod Pattern
-pub mod Tables

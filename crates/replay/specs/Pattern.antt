@@ -1,6 +1,6 @@
--- What a room of so many bytes holds before a call.
-use Rattle.std.specs.Prelude.{ℕ, zero, suc, ◌+◌, ◌%◌, List, [], ◌∷◌, ◌++◌}
+-- What a room of so many bytes or words holds before a call, by what the one at an index holds.
+use Rattle.std.specs.Prelude.{ℕ, zero, suc, List, [], ◌∷◌, ◌++◌}
 
-unfoldable pub pattern_to : ℕ → List ℕ
-pattern_to zero = []
-pattern_to (suc i) = pattern_to i ++ ((i % 255 + 1) ∷ [])
+unfoldable pub pattern_to : {A : Type 0} → (ℕ → A) → ℕ → List A
+pattern_to at zero = []
+pattern_to at (suc i) = pattern_to at i ++ (at i ∷ [])

@@ -2,86 +2,74 @@
 ghost use Rattle.std.specs.Prelude.{◌≡◌, ◌/◌, ◌%◌};
 ghost use Rattle.date.specs.Ordering.{order_number};
 
-use crate::header::Header;
-use crate::names::bit;
-use crate::output::{Told, answered, no_case, told_line};
-use crate::texts::emit_text;
-use date::{Date, DateRead, Order, compare, is_calendar, read_date, write_date};
-use programs::Output;
+use crate::header::{BadCase, Case, Header};
+use crate::output::Output;
+use crate::texts::put_text;
+use date::{Date, compare, is_calendar, read_date, write_date};
+use std::cmp::Ordering;
 
-pub fn reading(payload: &[u8], output: Output, out: &mut [u8]) -> Told {
-    let DateRead::Read(date) = read_date(payload) else {
-        return told_line(output, out, b"D", &[5]);
-    };
-    let is_one = bit(is_calendar(date));
-    let year = date.year as u64;
-    let month = date.month as u64;
-    let day = date.day as u64;
-    told_line(output, out, b"D", &[0, year, month, day, is_one])
+pub fn reading(case: Case<'_>, output: &mut Output) {
+    match read_date(case.payload) {
+        Ok(date) => output.line(
+            b"D",
+            &[
+                0,
+                u64::from(date.year),
+                u64::from(date.month),
+                u64::from(date.day),
+                u64::from(is_calendar(date)),
+            ],
+        ),
+        Err(why) => output.line(b"D", &[u64::from(why)]),
+    }
 }
 
 // The date of a header's numbers, if each of them fits.
-#[derive(Clone, Copy)]
-enum Numbers {
-    Are(Date),
-    DoNotFit,
-}
-
-fn date_of(h: Header) -> Numbers {
-    if 65535 < h.a {
-        return Numbers::DoNotFit;
-    }
-    if 255 < h.b {
-        return Numbers::DoNotFit;
-    }
-    if 255 < h.c {
-        return Numbers::DoNotFit;
-    }
-    Numbers::Are(Date {
-        year: h.a as u16,
-        month: h.b as u8,
-        day: h.c as u8,
+fn date_of(h: Header) -> Result<Date, BadCase> {
+    Ok(Date {
+        year: u16::try_from(h.a)?,
+        month: u8::try_from(h.b)?,
+        day: u8::try_from(h.c)?,
     })
 }
 
-pub fn calendar(h: Header, output: Output, out: &mut [u8]) -> Told {
-    let Numbers::Are(date) = date_of(h) else {
-        return no_case(output);
-    };
-    told_line(output, out, b"K", &[0, bit(is_calendar(date))])
+pub fn calendar(case: Case<'_>, output: &mut Output) -> Result<(), BadCase> {
+    let date = date_of(case.header)?;
+    output.line(b"K", &[0, u64::from(is_calendar(date))]);
+    Ok(())
 }
 
 // A date packed as year times 65,536, plus month times 256, plus day.
 fn unpacked(n: u32) -> Date
     ensures { (result.year ≡ n / 65536) × ((result.month ≡ n / 256 % 256) × (result.day ≡ n % 256)) }
 {
+    let [high, low, month, day] = n.to_be_bytes();
     Date {
-        year: (n / 65536) as u16,
-        month: (n / 256 % 256) as u8,
-        day: (n % 256) as u8,
+        year: u16::from_be_bytes([high, low]),
+        month,
+        day,
     }
 }
 
-fn order_number(order: Order) -> u64
+// The number of an order on that page. No `From`: neither type is this crate's.
+fn order_number(order: Ordering) -> u64
     ensures { result ≡ order_number order }
 {
     match order {
-        Order::Earlier => 1,
-        Order::Equal => 2,
-        Order::Later => 3,
+        Ordering::Less => 1,
+        Ordering::Equal => 2,
+        Ordering::Greater => 3,
     }
 }
 
-pub fn order(h: Header, output: Output, out: &mut [u8]) -> Told {
-    let n = order_number(compare(unpacked(h.a), unpacked(h.b)));
-    told_line(output, out, b"O", &[0, n])
+pub fn order(case: Case<'_>, output: &mut Output) {
+    let order = compare(unpacked(case.header.a), unpacked(case.header.b));
+    output.line(b"O", &[0, order_number(order)]);
 }
 
 // The date written into the room.
-pub fn writing(h: Header, room: &mut [u8], output: Output, out: &mut [u8]) -> Told {
-    let Numbers::Are(date) = date_of(h) else {
-        return no_case(output);
-    };
-    let filled = write_date(date, room);
-    answered(emit_text(output, out, b"W", filled, room))
+pub fn writing(case: Case<'_>, room: &mut [u8], output: &mut Output) -> Result<(), BadCase> {
+    let filled = write_date(date_of(case.header)?, room);
+    put_text(output, b"W", filled, room);
+    Ok(())
 }

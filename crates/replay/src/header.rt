@@ -3,8 +3,21 @@ ghost use Rattle.std.specs.Prelude.{◌≡◌, ◌+◌, ◌≤◌, length};
 ghost use Rattle.replay.specs.Headers.{word_at, header_of};
 
 use byte_rules::Reading;
+use std::num::TryFromIntError;
 
-// Op, flag, reading, three numbers, the room lent and the length of the payload.
+// What was read is no case.
+#[derive(Clone, Copy)]
+pub struct BadCase;
+
+// A number that is too large for its place.
+impl From<TryFromIntError> for BadCase {
+    fn from(_why: TryFromIntError) -> BadCase {
+        BadCase
+    }
+}
+
+// Op, flag, reading, three numbers, the room lent and the length of the payload. The first three stay bytes as they were read, since
+// which of them an op looks at, and what it takes them for, differs.
 #[derive(Clone, Copy)]
 pub struct Header {
     pub op: u8,
@@ -17,10 +30,11 @@ pub struct Header {
     pub n: u32,
 }
 
-fn wide(b: u8) -> u32
-    ensures { (result ≡ b) × (result ≤ 255) }
-{
-    b as u32
+// A header, and the payload behind it.
+#[derive(Clone, Copy)]
+pub struct Case<'a> {
+    pub header: Header,
+    pub payload: &'a [u8],
 }
 
 // The word of four bytes at i, little endian.
@@ -28,11 +42,10 @@ pub fn word(s: &[u8], i: usize) -> u32
     requires { i + 4 ≤ length s.now }
     ensures { result ≡ word_at s.now i }
 {
-    wide(s[i]) + 256 * wide(s[i + 1]) + 65536 * wide(s[i + 2]) + 16777216 * wide(s[i + 3])
+    u32::from_le_bytes([s[i], s[i + 1], s[i + 2], s[i + 3]])
 }
 
-pub fn read_header(s: &[u8]) -> Header
-    requires { 24 ≤ length s.now }
+pub fn read_header(s: &[u8; 24]) -> Header
     ensures { result ≡ header_of s.now }
 {
     Header {
@@ -47,18 +60,23 @@ pub fn read_header(s: &[u8]) -> Header
     }
 }
 
-// What a header says of the reading: its name, or none.
-#[derive(Clone, Copy)]
-pub enum Named {
-    Is(Reading),
-    IsNone,
+// 0 names the Rust's reading, 1 the strict one.
+pub fn reading_of(number: u8) -> Result<Reading, BadCase> {
+    match number {
+        0 => Ok(Reading::Rust),
+        1 => Ok(Reading::Strict),
+        _ => Err(BadCase),
+    }
 }
 
-// 0 names the Rust's reading, 1 the strict one.
-pub fn reading_of(number: u8) -> Named {
-    match number {
-        0 => Named::Is(Reading::Rust),
-        1 => Named::Is(Reading::Strict),
-        _ => Named::IsNone,
+impl Case<'_> {
+    // The reading that the header names.
+    pub fn reading(self) -> Result<Reading, BadCase> {
+        reading_of(self.header.reading)
+    }
+
+    // The span of the ops that have one.
+    pub fn span(self) -> (usize, usize) {
+        (self.header.a as usize, self.header.b as usize)
     }
 }

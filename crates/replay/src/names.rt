@@ -1,21 +1,12 @@
-// Ops L and R: labels and reserved names.
-ghost use Rattle.std.specs.Prelude.{◌≡◌, cond};
-
-use crate::output::{Told, told_line};
+// Ops L and R: labels and reserved names, a line each.
+use crate::header::Case;
+use crate::output::Output;
 use byte_rules::names::{is_reserved_name, is_valid_label};
-use programs::Output;
 
-// 1 for yes, 0 for no.
-pub fn bit(yes: bool) -> u64
-    ensures { result ≡ cond yes 1 0 }
-{
-    if yes { 1 } else { 0 }
+pub fn label(case: Case<'_>, output: &mut Output) {
+    output.line(b"L", &[0, u64::from(is_valid_label(case.payload))]);
 }
 
-pub fn label(payload: &[u8], output: Output, out: &mut [u8]) -> Told {
-    told_line(output, out, b"L", &[0, bit(is_valid_label(payload))])
-}
-
-pub fn reserved(payload: &[u8], output: Output, out: &mut [u8]) -> Told {
-    told_line(output, out, b"R", &[0, bit(is_reserved_name(payload))])
+pub fn reserved(case: Case<'_>, output: &mut Output) {
+    output.line(b"R", &[0, u64::from(is_reserved_name(case.payload))]);
 }

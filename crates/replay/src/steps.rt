@@ -1,186 +1,84 @@
 // Ops S and V: the parser, from a given state.
-use crate::header::{Header, Named, reading_of};
-use crate::names::bit;
-use crate::output::{Told, answered, emit_record, no_case};
-use crate::states::{Words, italic_word, read_state, record_of};
-use crate::texts::emit_text;
-use comment_parser::{CommentItem, Next, ParserState};
-use programs::{Output, refusal_number};
-use records::Filled;
+use crate::header::{BadCase, Case};
+use crate::output::{Output, put_record};
+use crate::states::{italic_word, read_state, record_of};
+use crate::texts::put_text;
+use crate::walks::{Steps, put_items, walk};
+use comment_parser::{CommentItem, Form, ParserState};
+use records::Refusal;
 
-// What some steps came to: the last answer, how many events there were, whether the last answer was the end, and the state after it.
-#[derive(Clone, Copy)]
-struct Walked {
-    answer: u64,
-    count: u32,
-    is_end: bool,
-    state: ParserState,
-}
+impl Steps for ParserState {
+    type Item = CommentItem;
 
-// At most `most` steps.
-fn walk(from: ParserState, buf: &[u8], most: u32) -> Walked {
-    let mut state = from;
-    let mut count: u32 = 0;
-    while count < most {
-        match state.next(buf) {
-            Next::Event(after, _) => {
-                state = after;
-                count += 1;
-            }
-            Next::End(after) => {
-                return Walked {
-                    answer: 0,
-                    count,
-                    is_end: true,
-                    state: after,
-                };
-            }
-            Next::Refused(after, why) => {
-                return Walked {
-                    answer: refusal_number(why),
-                    count,
-                    is_end: false,
-                    state: after,
-                };
-            }
-        }
+    fn step(self, buf: &[u8]) -> Result<(Self, Option<CommentItem>), Refusal> {
+        let next = self.next(buf)?;
+        Ok((next.state, next.item))
     }
-    Walked {
-        answer: 0,
-        count,
-        is_end: false,
-        state,
-    }
-}
 
-// The line of an event.
-fn emit_event(output: Output, out: &mut [u8], item: CommentItem) -> Output {
-    let p = item.placed();
-    let place = p.place as u64;
-    let start = p.start as u64;
-    let end = p.end as u64;
-    emit_record(output, out, p.kind as u64, &[place, start, end])
-}
-
-// The lines of the first `count` events.
-fn emit_events(
-    output: Output,
-    out: &mut [u8],
-    from: ParserState,
-    buf: &[u8],
-    count: u32,
-) -> Output {
-    let mut to = output;
-    let mut state = from;
-    let mut i: u32 = 0;
-    while i < count {
-        let Next::Event(after, item) = state.next(buf) else {
-            return to;
-        };
-        to = emit_event(to, out, item);
-        state = after;
-        i += 1;
+    fn put(item: CommentItem, output: &mut Output) {
+        let p = item.placed();
+        put_record(
+            output,
+            u64::from(p.kind),
+            &[p.place as u64, p.start as u64, p.end as u64],
+        );
     }
-    to
 }
 
 // The line of a state.
-fn emit_state(output: Output, out: &mut [u8], state: ParserState) -> Output {
-    let waiting = state.waiting;
-    let p = record_of(waiting);
-    let math = bit(state.math);
-    let html = bit(state.html);
-    let italic = italic_word(state.end_italic);
+fn put_state(output: &mut Output, state: ParserState) {
+    let p = record_of(state.waiting);
     output.line(
-        out,
         b"state",
         &[
             state.end as u64,
             state.pos as u64,
-            math,
-            html,
-            p.kind as u64,
+            u64::from(state.math),
+            u64::from(state.html),
+            u64::from(p.kind),
             p.place as u64,
             p.start as u64,
             p.end as u64,
-            italic,
+            italic_word(state.end_italic),
             state.end_subscript as u64,
         ],
-    )
+    );
+}
+
+// The state at the front of the payload, in the reading that the header names, and the buffer behind it.
+fn state_of<'a>(case: Case<'a>) -> Result<(ParserState, &'a [u8]), BadCase> {
+    if case.payload.len() < 40 {
+        return Err(BadCase);
+    }
+    let state = read_state(case.reading()?, case.payload)?;
+    Ok((state, &case.payload[40..]))
 }
 
 // The steps are made twice: once to count the events, for the head line, and once to write them.
-fn emit_steps(output: Output, out: &mut [u8], from: ParserState, buf: &[u8], most: u32) -> Output {
-    let walked = walk(from, buf, most);
-    let ended = bit(walked.is_end);
-    let head = output.line(out, b"S", &[walked.answer, walked.count as u64, ended]);
-    let body = emit_events(head, out, from, buf, walked.count);
-    emit_state(body, out, walked.state)
+pub fn stepping(case: Case<'_>, output: &mut Output) -> Result<(), BadCase> {
+    let (from, buf) = state_of(case)?;
+    let walked = walk(from, buf, case.header.c);
+    let (answer, is_end) = match walked.end {
+        Ok(is_end) => (0, is_end),
+        Err(why) => (u64::from(why), false),
+    };
+    output.line(b"S", &[answer, u64::from(walked.count), u64::from(is_end)]);
+    put_items(output, from, buf, walked.count);
+    put_state(output, walked.state);
+    Ok(())
 }
 
-pub fn stepping(h: Header, payload: &[u8], output: Output, out: &mut [u8]) -> Told {
-    if payload.len() < 40 {
-        return no_case(output);
-    }
-    let Named::Is(reading) = reading_of(h.reading) else {
-        return no_case(output);
+// A span of the buffer unescaped into the room, as the flag says: a text by the state's mode, a label or math.
+pub fn own_unescaping(case: Case<'_>, room: &mut [u8], output: &mut Output) -> Result<(), BadCase> {
+    let form = match case.header.flag {
+        0 => Form::Text,
+        2 => Form::Label,
+        3 => Form::Math,
+        _ => return Err(BadCase),
     };
-    let Words::Are(state) = read_state(reading, payload) else {
-        return no_case(output);
-    };
-    answered(emit_steps(output, out, state, &payload[40..], h.c))
-}
-
-// The call that the flag names: 2 a label's, 3 math's, else a text's.
-fn own_by(
-    flag: u8,
-    state: ParserState,
-    buf: &[u8],
-    start: usize,
-    end: usize,
-    room: &mut [u8],
-) -> Filled {
-    if flag == 2 {
-        return state.unescape_label(buf, start, end, room);
-    }
-    if flag == 3 {
-        return state.unescape_math(buf, start, end, room);
-    }
-    state.unescape_text(buf, start, end, room)
-}
-
-// The span unescaped into the room.
-fn emit_own(
-    h: Header,
-    state: ParserState,
-    buf: &[u8],
-    room: &mut [u8],
-    output: Output,
-    out: &mut [u8],
-) -> Output {
-    let filled = own_by(h.flag, state, buf, h.a as usize, h.b as usize, room);
-    emit_text(output, out, b"V", filled, room)
-}
-
-pub fn own_unescaping(
-    h: Header,
-    payload: &[u8],
-    room: &mut [u8],
-    output: Output,
-    out: &mut [u8],
-) -> Told {
-    let flag = h.flag;
-    if (flag == 1) | (3 < flag) {
-        return no_case(output);
-    }
-    if payload.len() < 40 {
-        return no_case(output);
-    }
-    let Named::Is(reading) = reading_of(h.reading) else {
-        return no_case(output);
-    };
-    let Words::Are(state) = read_state(reading, payload) else {
-        return no_case(output);
-    };
-    answered(emit_own(h, state, &payload[40..], room, output, out))
+    let (state, buf) = state_of(case)?;
+    let (start, end) = case.span();
+    let filled = state.unescape(form, buf, start, end, room);
+    put_text(output, b"V", filled, room);
+    Ok(())
 }

@@ -1,71 +1,36 @@
-// Text ops: the room that is lent, and the answer.
-ghost use Rattle.std.specs.Prelude.{◌≡◌, ◌+◌, ◌%◌, length};
-ghost use Rattle.replay.specs.Pattern.{pattern_to};
-
-use crate::output::{emit_hex, emit_touch, front};
-use programs::{Output, refusal_number};
-use records::Filled;
-
-// What the byte at i holds before a call: it depends on the index and is never 0.
-fn pattern(i: usize) -> u8
-    ensures { result ≡ i % 255 + 1 }
-{
-    (i % 255) as u8 + 1
-}
-
-pub fn fill(room: &mut [u8])
-    ensures { room.new ≡ pattern_to (length room.old) }
-{
-    let mut i = 0;
-    while i < room.len() {
-        room[i] = pattern(i);
-        i += 1;
-    }
-}
-
-// A line for each byte from `from` that does not hold its pattern any more.
-fn emit_touched(output: Output, out: &mut [u8], room: &[u8], from: usize) -> Output {
-    let mut to = output;
-    let mut i = from;
-    while i < room.len() {
-        to = emit_touch(to, out, i, room[i] == pattern(i));
-        i += 1;
-    }
-    to
-}
+// Text ops: what a call answered, and what it left in the room that was lent.
+use crate::output::{Output, put_hex};
+use crate::pattern::put_touched;
+use records::FillError;
 
 // Bytes in hex, `-` if there are none.
-fn emit_bytes(output: Output, out: &mut [u8], text: &[u8]) -> Output {
-    if text.len() == 0 {
-        return output.byte(out, b'-');
+fn put_bytes(output: &mut Output, text: &[u8]) {
+    if text.is_empty() {
+        output.byte(b'-');
+    } else {
+        put_hex(output, text);
     }
-    emit_hex(output, out, text)
 }
 
 // The line of op, 0, how many bytes were written, and those bytes.
-fn emit_done(output: Output, out: &mut [u8], op: &[u8], text: &[u8]) -> Output {
-    let begun = output.text(out, op);
-    let filled = begun.fields(out, &[0, text.len() as u64]);
-    let tab = filled.byte(out, b'\t');
-    let body = emit_bytes(tab, out, text);
-    body.byte(out, b'\n')
+fn put_done(output: &mut Output, op: &[u8], text: &[u8]) {
+    output.text(op);
+    output.fields(&[0, text.len() as u64]);
+    output.byte(b'\t');
+    put_bytes(output, text);
+    output.byte(b'\n');
 }
 
-// What a text call answered, with what it left in the room.
-pub fn emit_text(output: Output, out: &mut [u8], op: &[u8], filled: Filled, room: &[u8]) -> Output {
+// What a text call answered (document 01's 0 or 7, or a refusal), with what it left in the room.
+pub fn put_text(output: &mut Output, op: &[u8], filled: Result<usize, FillError>, room: &[u8]) {
+    let mut end = 0;
     match filled {
-        Filled::Done(n) => {
-            let end = front(n, room);
-            let to = emit_done(output, out, op, &room[..end]);
-            emit_touched(to, out, room, end)
+        Ok(n) => {
+            end = n.min(room.len());
+            put_done(output, op, &room[..end]);
         }
-        Filled::Short(n) => {
-            let to = output.line(out, op, &[7, n as u64]);
-            emit_touched(to, out, room, 0)
-        }
-        Filled::Refused(why) => {
-            let to = output.line(out, op, &[refusal_number(why)]);
-            emit_touched(to, out, room, 0)
-        }
+        Err(FillError::Short(n)) => output.line(op, &[7, n as u64]),
+        Err(FillError::Refused(why)) => output.line(op, &[u64::from(why)]),
     }
+    put_touched(output, room, end);
 }

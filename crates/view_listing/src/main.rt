@@ -5,39 +5,40 @@
 use byte_rules::Reading;
 use comment_view::events_by_view;
 use events::EVENT_WIDTH;
-use programs::Output;
-use records::Filled;
+use records::FillError;
+
+type Output = programs::Output<4096>;
 
 // A line of a word and a number, parted by a space.
-fn put_count(output: Output, buffer: &mut [u8], word: &[u8], n: usize) -> Output {
-    let begun = output.text(buffer, word);
-    let parted = begun.byte(buffer, b' ');
-    let told = parted.number(buffer, n as u64);
-    told.byte(buffer, b'\n')
+fn put_count(output: &mut Output, word: &[u8], n: usize) {
+    output.text(word);
+    output.byte(b' ');
+    output.number(n as u64);
+    output.byte(b'\n');
 }
 
-fn put_answer(output: Output, buffer: &mut [u8], answer: Filled) -> Output {
+fn put_answer(output: &mut Output, answer: Result<usize, FillError>) {
     match answer {
-        Filled::Done(n) => put_count(output, buffer, b"done", n),
-        Filled::Short(n) => put_count(output, buffer, b"short", n),
-        Filled::Refused(_) => output.text(buffer, b"refused\n"),
+        Ok(n) => put_count(output, b"done", n),
+        Err(FillError::Short(n)) => put_count(output, b"short", n),
+        Err(FillError::Refused(_)) => output.text(b"refused\n"),
     }
 }
 
-fn put_listing(output: Output, buffer: &mut [u8], end: usize, room: &mut [u32]) -> Output {
+fn put_listing(output: &mut Output, end: usize, room: &mut [u32]) {
     let answer = events_by_view(Reading::Rust, b"x_0 ~ ax-1.", 0, end, room);
-    let head = put_answer(output, buffer, answer);
-    head.rows(buffer, room, EVENT_WIDTH)
+    put_answer(output, answer);
+    output.rows(room, EVENT_WIDTH);
 }
 
 fn main(rt: HostRuntime) {
-    let mut buffer = io::buffer();
+    let mut output = Output::new(rt.stdout());
     let mut all = [77u32; 30];
-    let first = put_listing(Output::new(rt.stdout()), &mut buffer, 11, &mut all);
+    put_listing(&mut output, 11, &mut all);
     let mut two = [77u32; 13];
-    let second = put_listing(first, &mut buffer, 11, &mut two);
-    let parted = second.byte(&mut buffer, b'\n');
+    put_listing(&mut output, 11, &mut two);
+    output.byte(b'\n');
     let mut one = [77u32; 5];
-    let last = put_listing(parted, &mut buffer, 12, &mut one);
-    last.flush(&buffer);
+    put_listing(&mut output, 12, &mut one);
+    let _ = output.flush();
 }

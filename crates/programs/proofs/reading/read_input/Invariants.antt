@@ -1,8 +1,5 @@
--- `read_input` meets its contract. The invariant: the room keeps its length, and n bytes of it are read.
--- Assumes nothing.
-use Prim.Native.Nat.{◌-◌, ◌≤◌}
-use mathlib.Core.Path.{◌≡◌}
-use lib.ListN.{length}
+-- n bytes of the room are read.
+use Rattle.std.proofs.Common.{◌-◌, ◌≤◌, ◌≡◌, length}
 use Rattle.programs.proofs.reading.read_input.Given as goal
 
 abbrev pub invariant-loop-n : goal.invariant-loop-n

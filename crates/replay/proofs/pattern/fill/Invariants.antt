@@ -1,0 +1,7 @@
+-- So far the front of the room is the pattern.
+use Rattle.std.proofs.Common.{◌≡◌, take}
+use Rattle.replay.specs.Pattern.{pattern_to}
+use Rattle.replay.proofs.pattern.fill.Given as goal
+
+abbrev pub invariant-loop-i : goal.invariant-loop-i
+invariant-loop-i g l = take l.i l.room ≡ pattern_to g.T.Pattern.at l.i
