@@ -267,7 +267,7 @@ impl ParserState {
     }
 }
 
-// Gives what waits, or ends. By a match, which costs no copy of the state where nothing waits.
+// Gives what waits, or ends: where nothing waits the state stays as it is.
 #[tactic(auto, unfolding(crate::specs::Next::give))]
 fn give(st: ParserState) -> Next
     ensures { result ≡ give st }

@@ -21,7 +21,7 @@ fn lacks_lf(part: &[u8]) -> bool
     part.iter().fold(true, |clear, c| clear & (*c != b'\n'))
 }
 
-// Whether n bytes stand from i on, none of them an LF. Here and below i is a place that was found, so the slices from it need no test.
+// Whether n bytes stand from i on, none of them an LF; i is a place that was found.
 #[tactic(auto, using(crate::proofs::Moving::clear_part))]
 fn is_clear(buf: &[u8], i: usize, n: usize) -> bool
     requires { (i ≤ length buf.now) × (n ≤ 32) }
