@@ -4,7 +4,7 @@ ghost use Rattle.programs.specs.Output.{Gathers};
 ghost use Rattle.listing.specs.Listing.{name_of, event_line};
 
 use comment_parser::{CommentItem, Placed};
-use programs::Output;
+use programs::Writer;
 
 // The name of an event's kind.
 fn name_of(item: CommentItem) -> &'static [u8]
@@ -30,7 +30,7 @@ fn name_of(item: CommentItem) -> &'static [u8]
 
 // The line of an event: the name of its kind, its place, start and end, and the number of the line that its place lies in.
 #[tactic(auto, unfolding(crate::specs::Listing::event_line))]
-pub(crate) fn put_line<const N: usize>(output: &mut Output<N>, item: CommentItem, line: usize)
+pub(crate) fn put_line(output: &mut Writer<'_>, item: CommentItem, line: usize)
     ensures { Gathers (event_line item line) output.old output.new }
 {
     let Placed {

@@ -4,23 +4,23 @@
 
 mod line;
 
-ghost use Rattle.std.specs.Prelude.{IsOk};
+ghost use Rattle.std.specs.Prelude.{◌≡◌, [], length, IsOk};
 ghost use Rattle.byte_rules.specs.Reading.{named};
-ghost use Rattle.programs.specs.Output.{Gathers};
+ghost use Rattle.programs.specs.Output.{waiting, gathered, Gathers};
 ghost use Rattle.listing.specs.Listing.{event_lines, listing};
 
 use byte_rules::Reading;
 use comment_parser::Items;
 use line::put_line;
 use lines::lines_between;
-use programs::{Output, asked_for, read_input};
-use records::check_input;
+use programs::{Output, Writer, asked_for, read_input};
+use records::{Refusal, check_input};
 use std::env::{Env, FillError};
-use std::io::Error;
+use std::io::{Error, Stdout};
 
 // A line for each event, as it is read. Places never fall, so the number of the line is carried along. It stops where a write fails.
-fn put_events<const N: usize>(output: &mut Output<N>, reading: Reading, comment: &[u8])
-    ensures { IsOk output.new.so_far → Gathers (event_lines (named reading) comment.now) output.old output.new }
+fn put_events(output: &mut Writer<'_>, reading: Reading, comment: &[u8])
+    ensures { IsOk output.new.output.so_far → Gathers (event_lines (named reading) comment.now) output.old output.new }
 {
     let Ok(items) = Items::new(reading, comment, 0, comment.len()) else {
         return;
@@ -31,23 +31,44 @@ fn put_events<const N: usize>(output: &mut Output<N>, reading: Reading, comment:
         let to = item.placed().place;
         line += lines_between(comment, place, to);
         put_line(output, item, line);
-        if output.so_far.is_err() {
+        if output.output.so_far.is_err() {
             return;
         }
         place = to;
     }
 }
 
-// The listing of a comment in a reading.
-fn put_listing<const N: usize>(output: &mut Output<N>, reading: Reading, comment: &[u8])
-    ensures { IsOk output.new.so_far → Gathers (listing (named reading) comment.now) output.old output.new }
+// The listing of a comment in a reading, in a lent buffer.
+fn put_listing<'a>(
+    stdout: Stdout,
+    reading: Reading,
+    buffer: &'a mut [u8],
+    comment: &[u8],
+) -> Writer<'a>
+    ensures { IsOk result.output.so_far → waiting result.output result.buffer.now ≡ gathered (length buffer.old) [] (listing (named reading) comment.now) }
 {
+    let mut output = Writer {
+        output: Output::new(stdout),
+        buffer,
+    };
     output.text(b"kind\tplace\tstart\tend\tline\n");
-    put_events(output, reading, comment);
+    put_events(&mut output, reading, comment);
+    output
 }
 
-// Says on standard error what failed, and why.
+// The one line of a refusal, in a lent buffer.
+fn put_refusal(stdout: Stdout, why: Refusal, buffer: &mut [u8]) -> Writer<'_> {
+    let mut output = Writer {
+        output: Output::new(stdout),
+        buffer,
+    };
+    output.refused(why);
+    output
+}
+
+// Says on standard error what failed, and why, by the system's number of the error (0 where it has none).
 fn tell<R: Eprint>(rt: &R, what: &str, error: Error) {
+    let error = Error::from_raw_os_error(error.raw_os_error().unwrap_or(0));
     let _ = eprintln!(rt; "{what}: {error}");
 }
 
@@ -58,11 +79,11 @@ fn list_input(rt: &HostRuntime, reading: Reading) {
         Ok(n) => n,
         Err(error) => return tell(rt, "standard input", error),
     };
-    let mut output = Output::<4096>::new(rt.stdout());
-    match check_input(n) {
-        Ok(()) => put_listing(&mut output, reading, &room[..n]),
-        Err(why) => output.refused(why),
-    }
+    let mut buffer = io::buffer();
+    let mut output = match check_input(n) {
+        Ok(()) => put_listing(rt.stdout(), reading, &mut buffer, &room[..n]),
+        Err(why) => put_refusal(rt.stdout(), why, &mut buffer),
+    };
     if let Err(error) = output.flush() {
         tell(rt, "standard output", error);
     }

@@ -2,6 +2,8 @@
 --     push_room, push_full, push_none    one byte: there is room for it, the buffer is full, the buffer has no bytes
 --     gathered_then, gather_both         a text behind another
 --     gather_on, gather_end              a loop that gathers piece by piece: a turn, and the end
+--     gathers_both                       of writers: a text behind another
+--     gathering_starts, gathering_on, gathering_end    of writers: a loop that gathers piece by piece
 --     in_order                           nothing is lost, and nothing changes its place
 -- Assumes nothing.
 use Prim.Native.Nat.{ℕ, zero, suc, ◌+◌, ◌≤◌, ◌<◌}
@@ -14,7 +16,8 @@ use lib.Dec.{ltb}
 use lib.ListN.{length, set, take}
 use lib.Seq.{length-take-le, take_all, take-nil, take-suc-set}
 use borrow.Author.Tests.{lt-ltb, le-ltb}
-use Rattle.programs.specs.Output.{pushed, gathered}
+use Rattle.programs.specs.Output.{waiting, pushed, gathered, SameBuffer, Gathers}
+use Rattle.programs.specs.declared.writing.Writer.{Writer}
 
 module _ (buffer : List ℕ) (used b : ℕ) where
   pub push_room : used < length buffer → take (used + 1) (set buffer used b) ≡ gathered (length buffer) (take used buffer) (b ∷ [])
@@ -50,6 +53,35 @@ gather_on room old piece rest split step is = rw (step, gathered_then room old p
 pub gather_end : (room : ℕ) (old rest : List ℕ) {to : List ℕ} → rest ≡ [] → gathered room old rest ≡ to → old ≡ to
 unfolding gathered
 gather_end room old rest none is = rw none at is
+
+same_then : {w m r : Writer} → SameBuffer w m → SameBuffer m r → SameBuffer w r
+same_then a b = record { name = b.name ∙ a.name; long = b.long ∙ a.long }
+
+-- what waits in a writer's buffer
+abbrev held : Writer → List ℕ
+held w = waiting w.output w.buffer.now
+
+pub gathers_both : (a b : List ℕ) {w m r : Writer} → Gathers a w m → Gathers b m r → Gathers (a ++ b) w r
+gathers_both a b {w} {m} {r} one two =
+    record { waits = gather_both (length w.buffer.now) (held w) a b one.waits (rw one.buffer.long at two.waits); buffer = same_then one.buffer two.buffer }
+
+-- a loop that gathers a text piece by piece: to gather the rest is to gather all from the start
+pub record Gathering (rest all : List ℕ) (w r : Writer) : Type 0 where
+  pub is : gathered (length w.buffer.now) (held r) rest ≡ gathered (length w.buffer.now) (held w) all
+  pub buffer : SameBuffer w r
+
+pub gathering_starts : (all : List ℕ) (w : Writer) → Gathering all all w w
+gathering_starts all w = record { is = refl; buffer = record { name = refl; long = refl } }
+
+pub gathering_on : (piece rest : List ℕ) {left all : List ℕ} {w r s : Writer} → left ≡ piece ++ rest → Gathers piece r s → Gathering left all w r → Gathering rest all w s
+gathering_on piece rest {left} {all} {w} {r} {s} split step g =
+    record {
+      is = gather_on (length w.buffer.now) (held r) piece rest split (rw g.buffer.long at step.waits) g.is;
+      buffer = same_then g.buffer step.buffer;
+    }
+
+pub gathering_end : {rest all : List ℕ} {w r : Writer} → rest ≡ [] → Gathering rest all w r → Gathers all w r
+gathering_end {rest} {all} {w} {r} none g = record { waits = gather_end (length w.buffer.now) (held r) rest none g.is; buffer = g.buffer }
 
 -- what has gone, and what waits, are what waited and the text, end to end
 abbrev Kept : List ℕ → List ℕ → List ℕ → Type 0

@@ -1,10 +1,11 @@
--- Output that is gathered in a buffer: what waits there to be written.
+-- Output that is gathered in a lent buffer: what waits there to be written.
 use Rattle.std.specs.Prelude.{ℕ, ◌≡◌, cond, List, [], ◌∷◌, ◌++◌, ltb, length, take}
 use Rattle.programs.specs.declared.writing.Output.{Output}
+use Rattle.programs.specs.declared.writing.Writer.{Writer}
 
 -- the bytes at the front of the buffer
-abbrev pub waiting : {N : ℕ} → Output N → List ℕ
-waiting o = take o.used o.buffer
+abbrev pub waiting : Output → List ℕ → List ℕ
+waiting o buffer = take o.used buffer
 
 -- one byte more in a buffer of so many. Where it is full, what waited is written, and the byte waits, if there is room for one at all
 unfoldable pub pushed : ℕ → List ℕ → ℕ → List ℕ
@@ -15,6 +16,16 @@ unfoldable pub gathered : ℕ → List ℕ → List ℕ → List ℕ
 gathered room old [] = old
 gathered room old (b ∷ bs) = gathered room (pushed room old b) bs
 
--- from the one output to the other a text was gathered
-abbrev pub Gathers : {N : ℕ} → List ℕ → Output N → Output N → Type 0
-Gathers {N = N} text o r = waiting r ≡ gathered N (waiting o) text
+-- from the one output and buffer to the other a text was gathered
+abbrev pub Waits : List ℕ → Output → List ℕ → Output → List ℕ → Type 0
+Waits text o buffer r out = waiting r out ≡ gathered (length buffer) (waiting o buffer) text
+
+-- both writers have one and the same buffer, and it is as long as it was
+pub record SameBuffer (w r : Writer) : Type 0 where
+  pub name : r.buffer.ghost_name ≡ w.buffer.ghost_name
+  pub long : length r.buffer.now ≡ length w.buffer.now
+
+-- from the one writer to the other a text was gathered
+pub record Gathers (text : List ℕ) (w r : Writer) : Type 0 where
+  pub waits : Waits text w.output w.buffer.now r.output r.buffer.now
+  pub buffer : SameBuffer w r

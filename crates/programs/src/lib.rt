@@ -1,4 +1,4 @@
-// What programs share: their arguments, standard input, to a limit or part by part, and standard output, gathered in a buffer.
+// What programs share: their arguments, standard input, to a limit or part by part, and standard output, gathered in a buffer that the program lends.
 #![tactic(auto)]
 
 mod arguments;
@@ -7,5 +7,5 @@ mod reading;
 mod writing;
 
 pub use arguments::asked_for;
-pub use reading::{Source, read_input};
-pub use writing::Output;
+pub use reading::{Reader, Source, read_input};
+pub use writing::{Output, Writer};

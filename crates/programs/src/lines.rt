@@ -2,10 +2,10 @@
 ghost use Rattle.programs.specs.Lines.{field, fields, line, rows, refused_line};
 ghost use Rattle.programs.specs.Output.{Gathers};
 
-use crate::Output;
+use crate::Writer;
 use records::Refusal;
 
-impl<const N: usize> Output<N> {
+impl Writer<'_> {
     // A tab and a number.
     pub fn field(&mut self, n: u64)
         ensures { Gathers (field n) self.old self.new }

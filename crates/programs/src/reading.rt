@@ -1,6 +1,6 @@
 // Standard input.
 ghost use Rattle.std.specs.Prelude.{◌≡◌, ◌+◌, ◌≤◌, length, IfOk, None};
-ghost use Rattle.programs.specs.Input.{Within};
+ghost use Rattle.programs.specs.Input.{SameBuffer, Within};
 
 use std::io::{Error, Read, Result, Stdin};
 
@@ -22,44 +22,49 @@ pub fn read_input(mut stdin: Stdin, room: &mut [u8]) -> Result<usize>
     Ok(n + stdin.read(&mut one)?)
 }
 
-// Standard input, part by part: what of the buffer is read and not yet taken, and the error of the last read that failed. The buffer is
-// fixed, since there is no heap.
-#[derive(Drop)]
-pub struct Source<const N: usize> {
+// Standard input, part by part: what of a lent buffer is read and not yet taken, and the error of the last read that failed.
+#[derive(Clone, Copy)]
+pub struct Source {
     pub stdin: Stdin,
-    pub buffer: [u8; N],
     pub at: usize,
     pub end: usize,
     pub failure: Option<Error>,
 }
 
-impl<const N: usize> Source<N> {
+// A source with the buffer that is lent to it, of any length.
+#[derive(Drop)]
+pub struct Reader<'a> {
+    pub source: Source,
+    pub buffer: &'a mut [u8],
+}
+
+impl Source {
     pub fn new(stdin: Stdin) -> Self
-        ensures stdin { result.stdin ≡ stdin }
-        ensures empty { (result.at ≡ 0) × (result.end ≡ 0) }
-        ensures failure { result.failure ≡ None }
+        ensures { result ≡ record { stdin = stdin; at = 0; end = 0; failure = None } }
     {
         Source {
             stdin,
-            buffer: [0; N],
             at: 0,
             end: 0,
             failure: None,
         }
     }
+}
 
+impl Reader<'_> {
     // Reads if nothing of the buffer is left to take. Where nothing is left then, the input ends or a read failed.
     pub fn ready(&mut self)
-        ensures { Within self.new }
+        ensures within { Within self.new }
+        ensures buffer { SameBuffer self.old self.new }
     {
-        if self.at < self.end && self.end <= N {
+        if self.source.at < self.source.end && self.source.end <= self.buffer.len() {
             return;
         }
-        self.at = 0;
-        self.end = match self.stdin.read(&mut self.buffer) {
+        self.source.at = 0;
+        self.source.end = match self.source.stdin.read(self.buffer) {
             Ok(n) => n,
             Err(error) => {
-                self.failure = Some(error);
+                self.source.failure = Some(error);
                 0
             }
         };
@@ -68,19 +73,22 @@ impl<const N: usize> Source<N> {
     // Takes what is there, as far as it goes into `to`.
     fn take_some(&mut self, to: &mut [u8]) -> usize
         requires { Within self.old }
-        ensures { result ≤ length to.new }
+        ensures there { self.old.source.at + result ≤ self.old.source.end }
+        ensures taken { (self.new.source.at ≡ self.old.source.at + result) × (self.new.source.end ≡ self.old.source.end) }
+        ensures count { result ≤ length to.new }
+        ensures buffer { SameBuffer self.old self.new }
     {
-        let n = to.len().min(self.end - self.at);
-        let end = self.at + n;
-        let read = &self.buffer[..];
-        to[..n].copy_from_slice(&read[self.at..end]);
-        self.at = end;
+        let Source { at, end, .. } = self.source;
+        let n = to.len().min(end - at);
+        to[..n].copy_from_slice(&self.buffer[at..at + n]);
+        self.source.at = at + n;
         n
     }
 
     // Takes bytes until `to` is full or the input ends, and counts them.
     pub fn take(&mut self, to: &mut [u8]) -> usize
-        ensures { result ≤ length to.new }
+        ensures count { result ≤ length to.new }
+        ensures buffer { SameBuffer self.old self.new }
     {
         let mut done = 0;
         // So many as were there, and on from there.

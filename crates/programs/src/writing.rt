@@ -1,18 +1,24 @@
-// Standard output, gathered in a buffer, and written a buffer at a time.
+// Standard output, gathered in a buffer that the program lends, and written a buffer at a time.
 ghost use Rattle.std.specs.Prelude.{◌≡◌, [], ◌∷◌, IsOk, Ok};
 ghost use Rattle.decimal.specs.Decimal.{decimal};
-ghost use Rattle.programs.specs.Output.{Gathers};
+ghost use Rattle.programs.specs.Output.{Waits, Gathers, SameBuffer};
 
 use decimal::put_number;
 use std::io::{Result, Stdout};
 
-// Standard output. The buffer is fixed, since there is no heap: the bytes at its front wait to be written, and every write went well so far, or one failed with this error.
-#[derive(Drop)]
-pub struct Output<const N: usize> {
+// Standard output: how many bytes wait to be written, and that every write went well so far, or that one failed with this error.
+#[derive(Clone, Copy)]
+pub struct Output {
     pub stdout: Stdout,
-    pub buffer: [u8; N],
     pub used: usize,
     pub so_far: Result<()>,
+}
+
+// An output with the buffer that is lent to it, of any length: the bytes at its front are those that wait.
+#[derive(Drop)]
+pub struct Writer<'a> {
+    pub output: Output,
+    pub buffer: &'a mut [u8],
 }
 
 // Writes the bytes, unless a write failed before.
@@ -23,37 +29,55 @@ fn write(so_far: Result<()>, stdout: Stdout, bytes: &[u8]) -> Result<()>
     stdout.write_all(bytes)
 }
 
-impl<const N: usize> Output<N> {
+impl Output {
     pub fn new(stdout: Stdout) -> Self
-        ensures stdout { result.stdout ≡ stdout }
-        ensures empty { result.used ≡ 0 }
-        ensures so_far { result.so_far ≡ Ok tt }
+        ensures { result ≡ record { stdout = stdout; used = 0; so_far = Ok tt } }
     {
         Output {
             stdout,
-            buffer: [0; N],
             used: 0,
             so_far: Ok(()),
         }
     }
 
     // One byte more. A full buffer is written first; where the buffer has no bytes at all, the byte is written.
-    pub fn byte(&mut self, b: u8)
-        ensures { Gathers (b ∷ []) self.old self.new }
+    pub fn byte(&mut self, buffer: &mut [u8], b: u8)
+        ensures { Waits (b ∷ []) self.old buffer.old self.new buffer.new }
     {
-        if self.used < N {
-            self.buffer[self.used] = b;
+        if self.used < buffer.len() {
+            buffer[self.used] = b;
             self.used += 1;
             return;
         }
-        self.so_far = write(self.so_far, self.stdout, &self.buffer);
-        if N == 0 {
+        self.so_far = write(self.so_far, self.stdout, buffer);
+        if buffer.len() == 0 {
             self.so_far = write(self.so_far, self.stdout, &[b]);
             self.used = 0;
         } else {
-            self.buffer[0] = b;
+            buffer[0] = b;
             self.used = 1;
         }
+    }
+
+    // Writes what waits. Says whether every write went well: it did not if an earlier one failed.
+    pub fn flush(&mut self, buffer: &[u8]) -> Result<()>
+        ensures good { IsOk result → IsOk self.old.so_far }
+        ensures so_far { result ≡ self.new.so_far }
+        ensures empty { self.new.used ≡ 0 }
+    {
+        let used = self.used.min(buffer.len());
+        self.so_far = write(self.so_far, self.stdout, &buffer[..used]);
+        self.used = 0;
+        self.so_far
+    }
+}
+
+impl Writer<'_> {
+    // One byte more, as of the output in the buffer.
+    pub fn byte(&mut self, b: u8)
+        ensures { Gathers (b ∷ []) self.old self.new }
+    {
+        self.output.byte(self.buffer, b);
     }
 
     pub fn text(&mut self, text: &[u8])
@@ -73,15 +97,16 @@ impl<const N: usize> Output<N> {
         self.text(&digits[..len]);
     }
 
-    // Writes what waits. Says whether every write went well: it did not if an earlier one failed.
+    // Writes what waits, as of the output.
     pub fn flush(&mut self) -> Result<()>
-        ensures good { IsOk result → IsOk self.old.so_far }
-        ensures so_far { result ≡ self.new.so_far }
-        ensures empty { self.new.used ≡ 0 }
+        ensures good { IsOk result → IsOk self.old.output.so_far }
+        ensures so_far { result ≡ self.new.output.so_far }
+        ensures empty { self.new.output.used ≡ 0 }
+        ensures buffer { SameBuffer self.old self.new }
     {
-        let used = self.used.min(N);
-        self.so_far = write(self.so_far, self.stdout, &self.buffer[..used]);
-        self.used = 0;
-        self.so_far
+        let mut output = self.output;
+        let flushed = output.flush(self.buffer);
+        self.output = output;
+        flushed
     }
 }

@@ -1,7 +1,7 @@
 // Op C: the comment check, against the tables that are lent.
 use crate::header::{BadCase, Case};
 use crate::lists::put_list;
-use crate::output::Output;
+use programs::Writer;
 use verify_markup::{Bibliography, DIAG_WIDTH, Tables, verify_markup};
 
 // The diagnostics of the span, listed in the words. At flag 1 tags are not looked up; else they are, in the bibliography that is lent, or in none.
@@ -9,7 +9,7 @@ pub fn list_diagnostics(
     case: Case<'_>,
     mut tables: Tables<'_>,
     words: &mut [u32],
-    output: &mut Output,
+    output: &mut Writer<'_>,
 ) -> Result<(), BadCase> {
     match case.header.flag {
         0 => {}

@@ -1,8 +1,9 @@
 // Ops Q and F: credits and notices, one at a time, and the flags.
 use crate::header::{BadCase, Case};
-use crate::output::{Output, put_record};
+use crate::output::put_record;
 use crate::walks::{Steps, put_items, walk};
 use parentheticals::{Discouragements, Found, ParentheticalState};
+use programs::Writer;
 use records::Refusal;
 
 impl Steps for ParentheticalState {
@@ -13,7 +14,7 @@ impl Steps for ParentheticalState {
         Ok((stepped.state, stepped.found))
     }
 
-    fn put(found: Found, output: &mut Output) {
+    fn put(found: Found, output: &mut Writer<'_>) {
         let (kind, author, date) = found.item.parts();
         put_record(
             output,
@@ -31,7 +32,7 @@ impl Steps for ParentheticalState {
 }
 
 // The steps are made twice, as for S.
-pub fn stepping(case: Case<'_>, output: &mut Output) -> Result<(), BadCase> {
+pub fn stepping(case: Case<'_>, output: &mut Writer<'_>) -> Result<(), BadCase> {
     let (start, end) = case.span();
     match ParentheticalState::new(case.reading()?, case.payload, start, end) {
         Ok(state) => {
@@ -45,7 +46,7 @@ pub fn stepping(case: Case<'_>, output: &mut Output) -> Result<(), BadCase> {
     Ok(())
 }
 
-pub fn flagging(case: Case<'_>, output: &mut Output) {
+pub fn flagging(case: Case<'_>, output: &mut Writer<'_>) {
     match Discouragements::new(case.payload) {
         Ok(flags) => output.line(
             b"F",

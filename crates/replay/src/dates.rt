@@ -3,12 +3,12 @@ ghost use Rattle.std.specs.Prelude.{◌≡◌, ◌/◌, ◌%◌};
 ghost use Rattle.date.specs.Ordering.{order_number};
 
 use crate::header::{BadCase, Case, Header};
-use crate::output::Output;
 use crate::texts::put_text;
 use date::{Date, compare, is_calendar, read_date, write_date};
+use programs::Writer;
 use std::cmp::Ordering;
 
-pub fn reading(case: Case<'_>, output: &mut Output) {
+pub fn reading(case: Case<'_>, output: &mut Writer<'_>) {
     match read_date(case.payload) {
         Ok(date) => output.line(
             b"D",
@@ -33,7 +33,7 @@ fn date_of(h: Header) -> Result<Date, BadCase> {
     })
 }
 
-pub fn calendar(case: Case<'_>, output: &mut Output) -> Result<(), BadCase> {
+pub fn calendar(case: Case<'_>, output: &mut Writer<'_>) -> Result<(), BadCase> {
     let date = date_of(case.header)?;
     output.line(b"K", &[0, u64::from(is_calendar(date))]);
     Ok(())
@@ -62,13 +62,13 @@ fn order_number(order: Ordering) -> u64
     }
 }
 
-pub fn order(case: Case<'_>, output: &mut Output) {
+pub fn order(case: Case<'_>, output: &mut Writer<'_>) {
     let order = compare(unpacked(case.header.a), unpacked(case.header.b));
     output.line(b"O", &[0, order_number(order)]);
 }
 
 // The date written into the room.
-pub fn writing(case: Case<'_>, room: &mut [u8], output: &mut Output) -> Result<(), BadCase> {
+pub fn writing(case: Case<'_>, room: &mut [u8], output: &mut Writer<'_>) -> Result<(), BadCase> {
     let filled = write_date(date_of(case.header)?, room);
     put_text(output, b"W", filled, room);
     Ok(())

@@ -2,10 +2,10 @@
 ghost use Rattle.io.specs.Counts.{IsPrefixLen};
 
 use crate::header::{BadCase, Case};
-use crate::output::Output;
 use crate::pattern::put_touched;
 use events::{EVENT_WIDTH, events};
 use parentheticals::{PARENTHETICAL_WIDTH, parentheticals};
+use programs::Writer;
 use records::{FillError, Refusal};
 
 // How many of the words the first `count` records take, as far as they are there whole.
@@ -19,7 +19,14 @@ fn listed(count: usize, width: usize, words: &[u32]) -> usize
 }
 
 // Answer (document 01's 0 or 7), count, the records that were written, and what else was touched.
-fn put_listed(output: &mut Output, op: u8, width: usize, answer: u64, count: usize, words: &[u32]) {
+fn put_listed(
+    output: &mut Writer<'_>,
+    op: u8,
+    width: usize,
+    answer: u64,
+    count: usize,
+    words: &[u32],
+) {
     output.line(&[op], &[answer, count as u64]);
     let end = listed(count, width, words);
     output.rows(&words[..end], width);
@@ -27,7 +34,7 @@ fn put_listed(output: &mut Output, op: u8, width: usize, answer: u64, count: usi
 }
 
 // The line of a refusal: a table's number and entry, or no records.
-pub fn put_refusal(output: &mut Output, op: u8, why: Refusal) {
+pub fn put_refusal(output: &mut Writer<'_>, op: u8, why: Refusal) {
     match why {
         Refusal::BadTable { table, entry } => {
             output.line(&[op], &[u64::from(why), u64::from(table), entry as u64])
@@ -38,7 +45,7 @@ pub fn put_refusal(output: &mut Output, op: u8, why: Refusal) {
 
 // What the list call of an op answered, with what it left in the words.
 pub fn put_list(
-    output: &mut Output,
+    output: &mut Writer<'_>,
     op: u8,
     width: usize,
     filled: Result<usize, FillError>,
@@ -55,7 +62,11 @@ pub fn put_list(
 }
 
 // The events of the span, listed in the words. Each list call has a function; what they share is `put_list`.
-pub fn list_events(case: Case<'_>, words: &mut [u32], output: &mut Output) -> Result<(), BadCase> {
+pub fn list_events(
+    case: Case<'_>,
+    words: &mut [u32],
+    output: &mut Writer<'_>,
+) -> Result<(), BadCase> {
     let (start, end) = case.span();
     let filled = events(case.reading()?, case.payload, start, end, words);
     put_list(output, b'E', EVENT_WIDTH, filled, words);
@@ -66,7 +77,7 @@ pub fn list_events(case: Case<'_>, words: &mut [u32], output: &mut Output) -> Re
 pub fn list_parentheticals(
     case: Case<'_>,
     words: &mut [u32],
-    output: &mut Output,
+    output: &mut Writer<'_>,
 ) -> Result<(), BadCase> {
     let (start, end) = case.span();
     let filled = parentheticals(case.reading()?, case.payload, start, end, words);

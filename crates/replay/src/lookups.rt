@@ -1,9 +1,9 @@
 // Ops N and H, by a table that is lent alone: a name looked up, and the links of a span to the labels.
 use crate::header::{BadCase, Case};
 use crate::lists::{put_list, put_refusal};
-use crate::output::Output;
 use links::{LINK_WIDTH, links};
 use name_table::Table;
+use programs::Writer;
 use verify_markup::{Bibliography, Tables};
 
 // A table without names.
@@ -13,7 +13,11 @@ pub const EMPTY: Table<'static> = Table {
 };
 
 // The name looked up in the table: 1 and its entry, or 0. In a bibliography that is not lent nothing is found.
-pub fn looking_up(case: Case<'_>, tables: Tables<'_>, output: &mut Output) -> Result<(), BadCase> {
+pub fn looking_up(
+    case: Case<'_>,
+    tables: Tables<'_>,
+    output: &mut Writer<'_>,
+) -> Result<(), BadCase> {
     let table = match case.header.flag {
         1 => tables.symbols,
         2 => tables.labels,
@@ -36,7 +40,7 @@ pub fn list_links(
     case: Case<'_>,
     tables: Tables<'_>,
     words: &mut [u32],
-    output: &mut Output,
+    output: &mut Writer<'_>,
 ) -> Result<(), BadCase> {
     let (start, end) = case.span();
     let filled = links(

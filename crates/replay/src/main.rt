@@ -23,9 +23,9 @@ ghost use Rattle.std.specs.Prelude.{◌≡◌, length};
 
 use header::{BadCase, Case, Header, read_header};
 use lookups::EMPTY;
-use output::Output;
 use pattern::{Pattern, fill};
-use tables::{Large, Room, Small, Source, lend, read_all};
+use programs::{Output, Reader, Source, Writer};
+use tables::{Large, Room, Small, lend, read_all};
 use verify_markup::{Bibliography, Tables};
 
 // The largest room of a list op.
@@ -48,7 +48,7 @@ fn answer(
     tables: Tables<'_>,
     room: &mut [u8],
     words: &mut [u32],
-    output: &mut Output,
+    output: &mut Writer<'_>,
 ) -> Result<(), BadCase> {
     match case.header.op {
         b'L' => names::label(case, output),
@@ -73,7 +73,7 @@ fn answer(
 }
 
 // The header of the next case, none where the input ends.
-fn next_header(source: &mut Source) -> Result<Option<Header>, BadCase> {
+fn next_header(source: &mut Reader<'_>) -> Result<Option<Header>, BadCase> {
     let mut bytes = [0u8; 24];
     match source.take(&mut bytes) {
         0 => Ok(None),
@@ -101,11 +101,11 @@ fn bibliography_of(room: &Small) -> Bibliography<'_> {
 
 // One case, and whether there was one: there is none where the input ends. A table's payload goes to the table's own place.
 fn turn(
-    source: &mut Source,
+    source: &mut Reader<'_>,
     areas: &mut Areas,
     labels: &mut Large,
     words: &mut [u32],
-    output: &mut Output,
+    output: &mut Writer<'_>,
 ) -> Result<bool, BadCase> {
     let Some(header) = next_header(source)? else {
         return Ok(false);
@@ -135,10 +135,10 @@ fn turn(
 
 // All cases. A proved loop has to end, and nothing says that the input does: so the turns are counted, to a number that no run uses up.
 fn run(
-    source: &mut Source,
+    source: &mut Reader<'_>,
     labels: &mut Large,
     words: &mut [u32],
-    output: &mut Output,
+    output: &mut Writer<'_>,
 ) -> Result<(), BadCase> {
     let mut areas = Areas {
         payload: io::large_buffer(),
@@ -158,8 +158,16 @@ fn run(
 fn main(rt: HostRuntime) {
     let mut labels = Room::new();
     let mut words = word_area();
-    let mut source = Source::new(rt.stdin());
-    let mut output = Output::new(rt.stdout());
+    let mut input = io::large_buffer();
+    let mut source = Reader {
+        source: Source::new(rt.stdin()),
+        buffer: &mut input,
+    };
+    let mut gathered = io::large_buffer();
+    let mut output = Writer {
+        output: Output::new(rt.stdout()),
+        buffer: &mut gathered,
+    };
     if run(&mut source, &mut labels, &mut words, &mut output).is_err() {
         output.text(b"bad case\n");
     }

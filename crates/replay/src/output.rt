@@ -3,11 +3,10 @@ ghost use Rattle.std.specs.Prelude.{◌≡◌, ◌<◌};
 ghost use Rattle.programs.specs.Output.{Gathers};
 ghost use Rattle.replay.specs.Hex.{digit_of, hex_of};
 
-// The output of the program.
-pub type Output = programs::Output<65536>;
+use programs::Writer;
 
 // A record as a line: its kind, and its other numbers behind it.
-pub fn put_record(output: &mut Output, kind: u64, others: &[u64]) {
+pub fn put_record(output: &mut Writer<'_>, kind: u64, others: &[u64]) {
     output.number(kind);
     output.fields(others);
     output.byte(b'\n');
@@ -23,7 +22,7 @@ fn digit(n: u8) -> u8
 }
 
 // Bytes in hex.
-pub fn put_hex(output: &mut Output, bytes: &[u8])
+pub fn put_hex(output: &mut Writer<'_>, bytes: &[u8])
     ensures { Gathers (hex_of bytes.now) output.old output.new }
 {
     for b in bytes {

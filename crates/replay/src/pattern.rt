@@ -2,7 +2,7 @@
 ghost use Rattle.std.specs.Prelude.{◌≡◌, ℕ, ◌+◌, ◌%◌, length};
 ghost use Rattle.replay.specs.Pattern.{pattern_to};
 
-use crate::output::Output;
+use programs::Writer;
 
 // A byte or a word of a room. What the one at i holds before a call depends on the index and is never 0.
 pub trait Pattern: Copy + PartialEq {
@@ -37,7 +37,7 @@ pub fn fill<T: Pattern>(room: &mut [T])
 }
 
 // A line for each byte or word from `from` that does not hold its pattern any more.
-pub fn put_touched<T: Pattern>(output: &mut Output, room: &[T], from: usize) {
+pub fn put_touched<T: Pattern>(output: &mut Writer<'_>, room: &[T], from: usize) {
     for (i, x) in room.iter().enumerate().skip(from) {
         if *x != T::pattern(i) {
             output.line(b"touched", &[i as u64]);

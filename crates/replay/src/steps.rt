@@ -1,10 +1,11 @@
 // Ops S and V: the parser, from a given state.
 use crate::header::{BadCase, Case};
-use crate::output::{Output, put_record};
+use crate::output::put_record;
 use crate::states::{italic_word, read_state, record_of};
 use crate::texts::put_text;
 use crate::walks::{Steps, put_items, walk};
 use comment_parser::{CommentItem, Form, ParserState};
+use programs::Writer;
 use records::Refusal;
 
 impl Steps for ParserState {
@@ -15,7 +16,7 @@ impl Steps for ParserState {
         Ok((next.state, next.item))
     }
 
-    fn put(item: CommentItem, output: &mut Output) {
+    fn put(item: CommentItem, output: &mut Writer<'_>) {
         let p = item.placed();
         put_record(
             output,
@@ -26,7 +27,7 @@ impl Steps for ParserState {
 }
 
 // The line of a state.
-fn put_state(output: &mut Output, state: ParserState) {
+fn put_state(output: &mut Writer<'_>, state: ParserState) {
     let p = record_of(state.waiting);
     output.line(
         b"state",
@@ -55,7 +56,7 @@ fn state_of<'a>(case: Case<'a>) -> Result<(ParserState, &'a [u8]), BadCase> {
 }
 
 // The steps are made twice: once to count the events, for the head line, and once to write them.
-pub fn stepping(case: Case<'_>, output: &mut Output) -> Result<(), BadCase> {
+pub fn stepping(case: Case<'_>, output: &mut Writer<'_>) -> Result<(), BadCase> {
     let (from, buf) = state_of(case)?;
     let walked = walk(from, buf, case.header.c);
     let (answer, is_end) = match walked.end {
@@ -69,7 +70,11 @@ pub fn stepping(case: Case<'_>, output: &mut Output) -> Result<(), BadCase> {
 }
 
 // A span of the buffer unescaped into the room, as the flag says: a text by the state's mode, a label or math.
-pub fn own_unescaping(case: Case<'_>, room: &mut [u8], output: &mut Output) -> Result<(), BadCase> {
+pub fn own_unescaping(
+    case: Case<'_>,
+    room: &mut [u8],
+    output: &mut Writer<'_>,
+) -> Result<(), BadCase> {
     let form = match case.header.flag {
         0 => Form::Text,
         2 => Form::Label,

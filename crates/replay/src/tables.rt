@@ -3,9 +3,7 @@ ghost use Rattle.std.specs.Prelude.{◌≤◌};
 
 use crate::header::{BadCase, Header};
 use name_table::Table;
-
-// The input of the program.
-pub type Source = programs::Source<65536>;
+use programs::Reader;
 
 // How many bytes of names and how many ends a table has, in a room of at most B bytes and E ends.
 #[derive(Clone, Copy)]
@@ -30,14 +28,14 @@ pub type Small = Room<262144, 65536>;
 pub type Large = Room<2097152, 131072>;
 
 // Fills `to` from the input.
-pub fn read_all(source: &mut Source, to: &mut [u8]) -> Result<(), BadCase> {
+pub fn read_all(source: &mut Reader<'_>, to: &mut [u8]) -> Result<(), BadCase> {
     if source.take(to) < to.len() {
         return Err(BadCase);
     }
     Ok(())
 }
 
-fn read_words(source: &mut Source, to: &mut [u32]) -> Result<(), BadCase> {
+fn read_words(source: &mut Reader<'_>, to: &mut [u32]) -> Result<(), BadCase> {
     for word in to.iter_mut() {
         let mut four = [0u8; 4];
         read_all(source, &mut four)?;
@@ -65,7 +63,7 @@ impl<const B: usize, const E: usize> Room<B, E> {
     }
 
     // Reads a table of so many ends from a payload of `n` bytes: the ends, and then the names' bytes.
-    fn lend(&mut self, count: u32, n: u32, source: &mut Source) -> Result<(), BadCase> {
+    fn lend(&mut self, count: u32, n: u32, source: &mut Reader<'_>) -> Result<(), BadCase> {
         let ends = count as usize;
         let all = n as usize;
         if B < all || E < ends || all < 4 * ends {
@@ -83,7 +81,7 @@ impl<const B: usize, const E: usize> Room<B, E> {
 // bibliography's names would.
 pub fn lend(
     h: Header,
-    source: &mut Source,
+    source: &mut Reader<'_>,
     symbols: &mut Small,
     labels: &mut Large,
     bibliography: &mut Small,

@@ -1,5 +1,5 @@
 // Steps of what gives one item after the other: a parser, and a search for parentheticals.
-use crate::output::Output;
+use programs::Writer;
 use records::Refusal;
 
 pub trait Steps: Copy {
@@ -9,7 +9,7 @@ pub trait Steps: Copy {
     fn step(self, buf: &[u8]) -> Result<(Self, Option<Self::Item>), Refusal>;
 
     // The line of an item.
-    fn put(item: Self::Item, output: &mut Output);
+    fn put(item: Self::Item, output: &mut Writer<'_>);
 }
 
 // What some steps came to: how many items there were, the state after the last step, and whether that answered the end, or its refusal.
@@ -50,7 +50,7 @@ pub fn walk<S: Steps>(from: S, buf: &[u8], most: u32) -> Walked<S> {
 }
 
 // The lines of the first `count` items.
-pub fn put_items<S: Steps>(output: &mut Output, from: S, buf: &[u8], count: u32) {
+pub fn put_items<S: Steps>(output: &mut Writer<'_>, from: S, buf: &[u8], count: u32) {
     let mut state = from;
     for _ in 0..count {
         let Ok((after, given)) = state.step(buf) else {

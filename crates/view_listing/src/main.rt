@@ -5,19 +5,18 @@
 use byte_rules::Reading;
 use comment_view::events_by_view;
 use events::EVENT_WIDTH;
+use programs::{Output, Writer};
 use records::FillError;
 
-type Output = programs::Output<4096>;
-
 // A line of a word and a number, parted by a space.
-fn put_count(output: &mut Output, word: &[u8], n: usize) {
+fn put_count(output: &mut Writer<'_>, word: &[u8], n: usize) {
     output.text(word);
     output.byte(b' ');
     output.number(n as u64);
     output.byte(b'\n');
 }
 
-fn put_answer(output: &mut Output, answer: Result<usize, FillError>) {
+fn put_answer(output: &mut Writer<'_>, answer: Result<usize, FillError>) {
     match answer {
         Ok(n) => put_count(output, b"done", n),
         Err(FillError::Short(n)) => put_count(output, b"short", n),
@@ -25,14 +24,18 @@ fn put_answer(output: &mut Output, answer: Result<usize, FillError>) {
     }
 }
 
-fn put_listing(output: &mut Output, end: usize, room: &mut [u32]) {
+fn put_listing(output: &mut Writer<'_>, end: usize, room: &mut [u32]) {
     let answer = events_by_view(Reading::Rust, b"x_0 ~ ax-1.", 0, end, room);
     put_answer(output, answer);
     output.rows(room, EVENT_WIDTH);
 }
 
 fn main(rt: HostRuntime) {
-    let mut output = Output::new(rt.stdout());
+    let mut buffer = io::buffer();
+    let mut output = Writer {
+        output: Output::new(rt.stdout()),
+        buffer: &mut buffer,
+    };
     let mut all = [77u32; 30];
     put_listing(&mut output, 11, &mut all);
     let mut two = [77u32; 13];

@@ -7,5 +7,5 @@ use Rattle.listing.proofs.list_input.Goals as goal
 pub slice_bounds-room-end : goal.slice_bounds-room-end
 slice_bounds-room-end c = omega (arith, input_accepted _ c.in-Ok-check_input.ensures)
 
-pub slice_bounds-put_listing-end : goal.slice_bounds-put_listing-end
-slice_bounds-put_listing-end c = sym (length-take-le _ _ (omega (arith, input_accepted _ c.in-Ok-check_input.ensures)))
+pub slice_bounds-put_listing-end-in-Ok-check_input : goal.slice_bounds-put_listing-end-in-Ok-check_input
+slice_bounds-put_listing-end-in-Ok-check_input c = sym (length-take-le _ _ (omega (arith, input_accepted _ c.in-Ok-check_input.ensures)))
