@@ -13,6 +13,7 @@ use mathlib.Core.List.{List, [], ◌∷◌, ◌++◌, append_assoc, append-nil}
 use native.Mathlib.Omega.{arith}
 use native.Mathlib.Numerals.{add-one}
 use lib.Dec.{ltb}
+use Rattle.std.specs.Result.{IsOk}
 use lib.ListN.{length, set, take}
 use lib.Seq.{length-take-le, take_all, take-nil, take-suc-set}
 use borrow.Author.Tests.{lt-ltb, le-ltb}
@@ -63,25 +64,27 @@ held w = waiting w.output w.buffer.now
 
 pub gathers_both : (a b : List ℕ) {w m r : Writer} → Gathers a w m → Gathers b m r → Gathers (a ++ b) w r
 gathers_both a b {w} {m} {r} one two =
-    record { waits = gather_both (length w.buffer.now) (held w) a b one.waits (rw one.buffer.long at two.waits); buffer = same_then one.buffer two.buffer }
+    record { waits = gather_both (length w.buffer.now) (held w) a b one.waits (rw one.buffer.long at two.waits); kept = λ h. one.kept (two.kept h); buffer = same_then one.buffer two.buffer }
 
 -- a loop that gathers a text piece by piece: to gather the rest is to gather all from the start
 pub record Gathering (rest all : List ℕ) (w r : Writer) : Type 0 where
   pub is : gathered (length w.buffer.now) (held r) rest ≡ gathered (length w.buffer.now) (held w) all
+  pub kept : IsOk r.output.so_far → IsOk w.output.so_far
   pub buffer : SameBuffer w r
 
 pub gathering_starts : (all : List ℕ) (w : Writer) → Gathering all all w w
-gathering_starts all w = record { is = refl; buffer = record { name = refl; long = refl } }
+gathering_starts all w = record { is = refl; kept = λ h. h; buffer = record { name = refl; long = refl } }
 
 pub gathering_on : (piece rest : List ℕ) {left all : List ℕ} {w r s : Writer} → left ≡ piece ++ rest → Gathers piece r s → Gathering left all w r → Gathering rest all w s
 gathering_on piece rest {left} {all} {w} {r} {s} split step g =
     record {
       is = gather_on (length w.buffer.now) (held r) piece rest split (rw g.buffer.long at step.waits) g.is;
+      kept = λ h. g.kept (step.kept h);
       buffer = same_then g.buffer step.buffer;
     }
 
 pub gathering_end : {rest all : List ℕ} {w r : Writer} → rest ≡ [] → Gathering rest all w r → Gathers all w r
-gathering_end {rest} {all} {w} {r} none g = record { waits = gather_end (length w.buffer.now) (held r) rest none g.is; buffer = g.buffer }
+gathering_end {rest} {all} {w} {r} none g = record { waits = gather_end (length w.buffer.now) (held r) rest none g.is; kept = g.kept; buffer = g.buffer }
 
 -- what has gone, and what waits, are what waited and the text, end to end
 abbrev Kept : List ℕ → List ℕ → List ℕ → Type 0

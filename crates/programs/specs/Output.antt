@@ -1,5 +1,5 @@
 -- Output that is gathered in a lent buffer: what waits there to be written.
-use Rattle.std.specs.Prelude.{ℕ, ◌≡◌, cond, List, [], ◌∷◌, ◌++◌, ltb, length, take}
+use Rattle.std.specs.Prelude.{ℕ, ◌≡◌, cond, List, [], ◌∷◌, ◌++◌, ltb, length, take, IsOk}
 use Rattle.programs.specs.declared.writing.Output.{Output}
 use Rattle.programs.specs.declared.writing.Writer.{Writer}
 
@@ -25,7 +25,8 @@ pub record SameBuffer (w r : Writer) : Type 0 where
   pub name : r.buffer.ghost_name ≡ w.buffer.ghost_name
   pub long : length r.buffer.now ≡ length w.buffer.now
 
--- from the one writer to the other a text was gathered
+-- from the one writer to the other a text was gathered, and where a write had failed none counts as done well
 pub record Gathers (text : List ℕ) (w r : Writer) : Type 0 where
   pub waits : Waits text w.output w.buffer.now r.output r.buffer.now
+  pub kept : IsOk r.output.so_far → IsOk w.output.so_far
   pub buffer : SameBuffer w r

@@ -1,5 +1,5 @@
 // Standard output, gathered in a buffer that the program lends, and written a buffer at a time.
-ghost use Rattle.std.specs.Prelude.{◌≡◌, [], ◌∷◌, IsOk, Ok};
+ghost use Rattle.std.specs.Prelude.{◌≡◌, ◌≤◌, [], ◌∷◌, length, IsOk, Ok};
 ghost use Rattle.decimal.specs.Decimal.{decimal};
 ghost use Rattle.programs.specs.Output.{Waits, Gathers, SameBuffer};
 
@@ -42,13 +42,24 @@ impl Output {
 
     // One byte more. A full buffer is written first; where the buffer has no bytes at all, the byte is written.
     pub fn byte(&mut self, buffer: &mut [u8], b: u8)
-        ensures { Waits (b ∷ []) self.old buffer.old self.new buffer.new }
+        ensures waits { Waits (b ∷ []) self.old buffer.old self.new buffer.new }
+        ensures kept { IsOk self.new.so_far → IsOk self.old.so_far }
     {
         if self.used < buffer.len() {
             buffer[self.used] = b;
             self.used += 1;
-            return;
+        } else {
+            self.begin_anew(buffer, b);
         }
+    }
+
+    // A byte more where the buffer is full. Apart from `byte`, which runs for each byte and seldom comes to it.
+    #[cold]
+    fn begin_anew(&mut self, buffer: &mut [u8], b: u8)
+        requires { length buffer.old ≤ self.old.used }
+        ensures waits { Waits (b ∷ []) self.old buffer.old self.new buffer.new }
+        ensures kept { IsOk self.new.so_far → IsOk self.old.so_far }
+    {
         self.so_far = write(self.so_far, self.stdout, buffer);
         if buffer.len() == 0 {
             self.so_far = write(self.so_far, self.stdout, &[b]);

@@ -100,6 +100,7 @@ fn bibliography_of(room: &Small) -> Bibliography<'_> {
 }
 
 // One case, and whether there was one: there is none where the input ends. A table's payload goes to the table's own place.
+// Of a payload that is larger than its area as much is read as the area holds.
 fn turn(
     source: &mut Reader<'_>,
     areas: &mut Areas,
@@ -116,10 +117,11 @@ fn turn(
         return Ok(true);
     }
     let n = header.n as usize;
-    if areas.payload.len() < n {
+    let most = n.min(areas.payload.len());
+    read_all(source, &mut areas.payload[..most])?;
+    if most < n {
         return Err(BadCase);
     }
-    read_all(source, &mut areas.payload[..n])?;
     let case = Case {
         header,
         payload: &areas.payload[..n],

@@ -28,18 +28,19 @@ impl Pattern for u32 {
     }
 }
 
+// By index, as `put_touched`: a room may be large, and an iterator over it takes longer.
 pub fn fill<T: Pattern>(room: &mut [T])
     ensures { room.new ≡ pattern_to T.at (length room.old) }
 {
-    for (i, x) in room.iter_mut().enumerate() {
-        *x = T::pattern(i);
+    for i in 0..room.len() {
+        room[i] = T::pattern(i);
     }
 }
 
 // A line for each byte or word from `from` that does not hold its pattern any more.
 pub fn put_touched<T: Pattern>(output: &mut Writer<'_>, room: &[T], from: usize) {
-    for (i, x) in room.iter().enumerate().skip(from) {
-        if *x != T::pattern(i) {
+    for i in from..room.len() {
+        if room[i] != T::pattern(i) {
             output.line(b"touched", &[i as u64]);
         }
     }
