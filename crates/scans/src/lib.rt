@@ -5,7 +5,7 @@
 pub mod labels;
 pub mod plain;
 
-ghost use Rattle.std.specs.Prelude.{◌≡◌, ◌≤◌, ℕ, Some, None, length};
+ghost use Rattle.std.specs.Prelude.{◌≡◌, ℕ, Some, None, length};
 ghost use Rattle.byte_rules.specs.Reading.{named};
 ghost use Rattle.scans.specs.Scan.{scan, SaysAt};
 ghost use Rattle.scans.specs.Ends.{blanks_step, tag_step, subscript_step, italic_step, blanks_end, tag_stop, subscript_end, closes_italic, italic_end};
@@ -157,14 +157,13 @@ pub fn italic_end(reading: Reading, text: &[u8], from: usize) -> Option<usize>
     closes_italic(text, end)
 }
 
-// j closes an italic: a lone `_`, an alphanumeric byte before it, and none after it.
+// j closes an italic: a lone `_`, an alphanumeric byte before it, and none after it. A `_` at the front closes none: the byte before it is taken to be itself.
 #[tactic(auto, using(look::proofs::Laws::byte_within), unfolding(crate::specs::Ends::closes_italic))]
 fn closes_italic(text: &[u8], j: usize) -> Option<usize>
-    requires { 1 ≤ j }
     ensures { result ≡ closes_italic text.now j }
 {
     let closes = byte_at(text, j, b'_')
-        && alphanumeric_at(text, j - 1)
+        && alphanumeric_at(text, j.saturating_sub(1))
         && !alphanumeric_at(text, j + 1);
     closes.then_some(j)
 }
