@@ -145,7 +145,7 @@ pub fn fits(count: usize, most: usize) -> Result<usize, FillError>
 }
 
 // Writes a record, of as many words as it has, at the front of `room` if it fits, else leaves the room: a writer of one record.
-#[tactic(auto, using(crate::proofs::Laws::lay_counts, crate::proofs::Laws::lay_leaves, crate::proofs::Laws::lay_told, crate::proofs::Laws::lay_writes))]
+#[tactic(auto, using(crate::proofs::Laws::lay_counts, crate::proofs::Laws::lay_leaves, crate::proofs::Laws::lay_told, crate::proofs::Laws::lay_writes, crate::proofs::Laws::lay_writes_from))]
 pub fn lay(room: &mut [u32], words: &[u32]) -> Wrote
     ensures wrote { result ≡ wrote_of (length words.now) (words.now ∷ []) (length room.old) }
     ensures left { room.new ≡ laid (length words.now) (words.now ∷ []) room.old }
