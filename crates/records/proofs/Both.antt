@@ -1,13 +1,21 @@
 -- Two writers, one after the other: the second is lent the tail behind what the first wrote, and together they laid both lists.
 -- Assumes nothing.
-use Prim.Native.Nat.{ℕ}
+use Prim.Native.Nat.{ℕ, ◌+◌, ◌%◌, ◌^◌, ◌<◌}
+use native.Mathlib.Omega.{arith}
 use mathlib.Core.Path.{◌≡◌, sym, ap, ◌∙◌}
 use mathlib.Core.List.{List, ◌++◌}
 use lib.ListN.{length, drop, length-append}
-use Rattle.records.specs.Records.{laid, used, wrote_of, sum}
+use Rattle.records.specs.Records.{laid, used, wrote_of, sum, wrapped_sum}
 use Rattle.records.specs.declared.Wrote.{Wrote}
 use Rattle.records.proofs.Laws.{Wide, laid_append}
 use Rattle.records.proofs.Laying.{tail, back, tail_is, back_is}
+
+-- where both sums fit, what `then` answers is the sum
+pub sum_fits : (a b : Wrote) {r : Wrote} → r ≡ wrapped_sum a b → (a.words + b.words < 2 ^ 64) × (a.count + b.count < 2 ^ 64) → r ≡ sum a b
+sum_fits a b told fits =
+    let words : (a.words + b.words) % 2 ^ 64 ≡ a.words + b.words = omega (arith, fits.0) in
+    let count : (a.count + b.count) % 2 ^ 64 ≡ a.count + b.count = omega (arith, fits.1) in
+    rw (told, words, count)
 
 -- `mid` is the room after the first, and `last` the tail after the second
 module _ (k : ℕ) (ws vs : List (List ℕ)) (room mid last : List ℕ) (wide : Wide k ws) (a b : Wrote)

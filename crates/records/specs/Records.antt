@@ -1,5 +1,5 @@
 -- What writers of records answer, and what they leave in the room that they are lent.
-use Rattle.std.specs.Prelude.{ℕ, ◌+◌, ◌-◌, ◌*◌, cond, List, [], ◌∷◌, ◌++◌, length, drop, leb}
+use Rattle.std.specs.Prelude.{ℕ, ◌+◌, ◌-◌, ◌*◌, ◌%◌, ◌^◌, cond, List, [], ◌∷◌, ◌++◌, length, drop, leb}
 use Rattle.std.proofs.Math.Option.{Option, none, some}
 use Rattle.records.specs.Answer.{Answer, done, short}
 use Rattle.records.specs.declared.Wrote.{Wrote}
@@ -25,6 +25,10 @@ wrote_of k ws room = record { words = used k ws room; count = length ws }
 -- what two writers did
 abbrev pub sum : Wrote → Wrote → Wrote
 sum a b = record { words = a.words + b.words; count = a.count + b.count }
+
+-- the same in 64 bits: a sum that does not fit them wraps
+abbrev pub wrapped_sum : Wrote → Wrote → Wrote
+wrapped_sum a b = record { words = (a.words + b.words) % 2 ^ 64; count = (a.count + b.count) % 2 ^ 64 }
 
 -- a list call's answer: its refusal, or else the count of its records, as 7 where they do not all fit
 unfoldable pub list_answer : Option Answer → ℕ → List (List ℕ) → ℕ → Answer

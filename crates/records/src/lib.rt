@@ -1,9 +1,9 @@
 // Document 01's answers, and records written into an area that the caller lends.
 #![tactic(auto)]
 
-ghost use Rattle.std.specs.Prelude.{◌≡◌, ◌+◌, ◌^◌, ◌<◌, [], ◌∷◌, length, cond, leb, Ok, Err};
+ghost use Rattle.std.specs.Prelude.{◌≡◌, [], ◌∷◌, length, cond, leb, Ok, Err};
 ghost use Rattle.records.specs.Answer.{checked_answer, refusal_answer, limit_refusal, places_refusal, length_refusal, span_refusal, state_refusal, input_refusal};
-ghost use Rattle.records.specs.Records.{laid, wrote_of, sum};
+ghost use Rattle.records.specs.Records.{laid, wrote_of, wrapped_sum};
 ghost use Rattle.records.specs.declared.FillError.TheVariants.{Short};
 
 // The most bytes of a buffer.
@@ -72,7 +72,7 @@ impl Wrote {
 
     // What two writers did, of which the second was lent the room behind the first one's words. No room has so many words that a sum wraps.
     pub fn then(self, next: Wrote) -> Wrote
-        ensures { (self.words + next.words < 2 ^ 64) × (self.count + next.count < 2 ^ 64) → result ≡ sum self next }
+        ensures { result ≡ wrapped_sum self next }
     {
         Wrote {
             words: self.words.wrapping_add(next.words),

@@ -8,6 +8,7 @@ use lib.ListN.{length}
 use native.Mathlib.Omega.{arith}
 use Rattle.std.proofs.lemmas.Result.{err_from_is_err_and}
 use Rattle.records.specs.Answer.{span_refusal}
+use Rattle.records.proofs.Both.{sum_fits}
 use Rattle.records.proofs.Laying.{back, given_refused, all_counted, all_laid, listed_fits}
 use Rattle.byte_rules.specs.Reading.{named}
 use Rattle.comment_parser.specs.Items.{items_left}
@@ -58,7 +59,7 @@ pub loop-item-preserved : goal.loop-item-preserved
 loop-item-preserved c =
     let laid = (goal.at.loop-item-preserved c).After-lay_event-wrote in
     let t = turned laid in
-    rw (c.then-done.ensures (omega (arith, t.0, c.loop-item.invariant.laying.long, c.well_formed), omega (arith, t.1.few))) t.1
+    rw (sum_fits _ _ c.then-done.ensures (omega (arith, t.0, c.loop-item.invariant.laying.long, c.well_formed), omega (arith, t.1.few))) t.1
 
 -- the lines are filled in
 pub returns : goal.returns

@@ -8,6 +8,7 @@ use native.Mathlib.Omega.{arith}
 use Rattle.std.proofs.lemmas.Result.{err_from_is_err_and}
 use Rattle.basics.proofs.Laws.{the_one, the_other}
 use Rattle.records.specs.Answer.{checked_answer, span_refusal}
+use Rattle.records.proofs.Both.{sum_fits}
 use Rattle.records.proofs.Laying.{back, given_refused, given_fits}
 use Rattle.name_table.specs.Table.{table_refusal}
 use Rattle.byte_rules.specs.Reading.{named}
@@ -69,7 +70,7 @@ turned c = going_on (links_give _ _ _) c.loop-item.invariant c.in-Some.ensures.s
 pub loop-item-preserved : goal.loop-item-preserved
 loop-item-preserved c =
     let t = turned (goal.at.loop-item-preserved c).After-lay_item-wrote in
-    rw (c.then-done.ensures (omega (arith, t.0, c.loop-item.invariant.laying.long, c.well_formed), omega (arith, t.1.few))) t.1
+    rw (sum_fits _ _ c.then-done.ensures (omega (arith, t.0, c.loop-item.invariant.laying.long, c.well_formed), omega (arith, t.1.few))) t.1
 
 -- the end: no link is to come
 pub returns : goal.returns

@@ -11,6 +11,7 @@ use Rattle.std.specs.Prelude.{Option as Maybe, Some, None, Result, Ok}
 use Rattle.byte_rules.specs.Reading.{Reading, named}
 use Rattle.records.specs.Records.{laid}
 use Rattle.records.specs.declared.Refusal.{Refusal}
+use Rattle.records.proofs.Both.{sum_fits}
 use Rattle.records.proofs.Laying.{back, all_counted, all_laid}
 use Rattle.comment_parser.specs.State.{fresh}
 use Rattle.comment_parser.specs.Next.{next_of}
@@ -90,7 +91,7 @@ loop-item-preserved c =
     let x = turned laid in
     let inv = c.loop-item.invariant in
     let kept = ap (λ (b : Bor (List ℕ)). b.now) c.next_item.ensures.1 ∙ inv.0 in
-    let fits = c.then-done.ensures (omega (arith, x.0, inv.2.laying.long, c.well_formed), omega (arith, x.1.few)) in
+    let fits = sum_fits _ _ c.then-done.ensures (omega (arith, x.0, inv.2.laying.long, c.well_formed), omega (arith, x.1.few)) in
     (kept, ap named (on (event laid)).same_reading ∙ inv.1, rw fits x.1)
 
 -- nothing is to come, so all is laid and counted

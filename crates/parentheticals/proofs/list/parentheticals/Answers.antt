@@ -12,6 +12,7 @@ use Rattle.records.specs.Answer.{longest}
 use Rattle.records.specs.declared.Wrote.{Wrote}
 use Rattle.records.proofs.Answers.{span_accepted}
 use Rattle.records.specs.Records.{laid, wrote_of, sum}
+use Rattle.records.proofs.Both.{sum_fits}
 use Rattle.records.proofs.Laying.{Laying, tail, back, laying_starts, laying_wrote, given_fits}
 use Rattle.parentheticals.specs.Records.{record_of, record_width, records_of}
 use Rattle.parentheticals.specs.declared.Found.{Found}
@@ -86,7 +87,7 @@ loop-found-preserved c =
     let t = turned h _ _ laid.wrote laid.left in
     let l = head h in
     let ok = good l in
-    rw (c.then-wrote.ensures (omega (arith, t.0, l.loop-found.invariant.laying.long, l.well_formed), omega (arith, ok.0, ok.2, counted, r.behind, r.onward, r.inside, l.loop-found.invariant.few)))
+    rw (sum_fits _ _ c.then-wrote.ensures (omega (arith, t.0, l.loop-found.invariant.laying.long, l.well_formed), omega (arith, ok.0, ok.2, counted, r.behind, r.onward, r.inside, l.loop-found.invariant.few)))
     (record {
       within = r.inside;
       few = omega (arith, counted, r.behind, r.onward, r.inside, l.loop-found.invariant.few);

@@ -2,6 +2,7 @@
 -- Assumes nothing.
 use Rattle.std.proofs.Common.{◌+◌, ◌≤◌, length, sym, arith}
 use Rattle.records.specs.Records.{sum}
+use Rattle.records.proofs.Both.{sum_fits}
 use Rattle.records.proofs.Laying.{back}
 use Rattle.comment_parser.specs.Items.{items_left}
 use Rattle.verify_markup.specs.List.{closed, diags_from, modes_after}
@@ -39,7 +40,7 @@ turned c =
 pub loop-item-preserved : goal.loop-item-preserved
 loop-item-preserved c =
     let t = turned (goal.at.loop-item-preserved c).After-lay_item-one in
-    rw (c.after-modes.ensures, c.then-wrote.ensures (omega (arith, t.0, c.well_formed), omega (arith, t.1.few))) t.1
+    rw (c.after-modes.ensures, sum_fits _ _ c.then-wrote.ensures (omega (arith, t.0, c.well_formed), omega (arith, t.1.few))) t.1
 
 pub returns : goal.returns
 returns c =
@@ -49,4 +50,4 @@ returns c =
     rw (sym c.into_iter-item-iterator.ensures.into_iter_gives)
     (last_writes (wide_diags p.buf.now p.span.end (lent_names c.args.tables) closed (items_left c.into_iter-item-iterator.result))
     (going_ends p.in_buf.short p.in_buf.inside g c.in-None.ensures.steps.0) few c.lay_last-last.ensures
-    (c.then.ensures (omega (arith, c.lay_last-last.ensures.inside, c.lay_last-last.ensures.long, g.laying.inside, c.well_formed), omega (arith, g.few, writes_few few c.lay_last-last.ensures))))
+    (sum_fits _ _ c.then.ensures (omega (arith, c.lay_last-last.ensures.inside, c.lay_last-last.ensures.long, g.laying.inside, c.well_formed), omega (arith, g.few, writes_few few c.lay_last-last.ensures))))
