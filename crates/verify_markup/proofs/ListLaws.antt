@@ -27,7 +27,7 @@ use Rattle.verify_markup.specs.declared.Modes.{Modes}
 use Rattle.verify_markup.proofs.DiagLaws.{Few, few_append, few_of_some, writes_few, all_writes}
 use Rattle.verify_markup.proofs.ItemLaws.{few_item}
 
--- ---- the events that give nothing
+-- ---- the events that give nothing, and those that keep the modes
 
 -- none of the events that may give a diagnostic
 pub record Silent (item : CommentItem) : Type 0 where
@@ -38,6 +38,13 @@ pub record Silent (item : CommentItem) : Type 0 where
   pub no_label : (i : ℕ) (s : Span) → item ≡ Label i s → ⊥
   pub no_url : (i : ℕ) (s : Span) → item ≡ Url i s → ⊥
   pub no_tag : (s : Span) → item ≡ BibTag s → ⊥
+
+-- none of the events that open or close a mode
+pub record Keeping (item : CommentItem) : Type 0 where
+  pub no_start_math : (i : ℕ) → item ≡ StartMathMode i → ⊥
+  pub no_end_math : (i : ℕ) → item ≡ EndMathMode i → ⊥
+  pub no_start_html : (i : ℕ) → item ≡ StartHtml i → ⊥
+  pub no_end_html : (i : ℕ) → item ≡ EndHtml i → ⊥
 
 pub item_silent : (buf : List ℕ) (n : Names) (html : Bool) (i : CommentItem) → Silent i → item_diags buf n html i ≡ []
 item_silent buf n html (Text s) h = absurd (h.no_text s refl)
@@ -54,6 +61,22 @@ item_silent buf n html (EndSubscript i) h = refl
 item_silent buf n html (StartItalic i) h = refl
 item_silent buf n html (EndItalic i) h = refl
 item_silent buf n html (BibTag s) h = absurd (h.no_tag s refl)
+
+pub modes_kept : (m : Modes) (i : CommentItem) → Keeping i → m ≡ modes_after m i
+modes_kept m (Text s) h = refl
+modes_kept m (LineBreak i) h = refl
+modes_kept m (StartMathMode i) h = absurd (h.no_start_math i refl)
+modes_kept m (EndMathMode i) h = absurd (h.no_end_math i refl)
+modes_kept m (MathToken s) h = refl
+modes_kept m (Label i s) h = refl
+modes_kept m (Url i s) h = refl
+modes_kept m (StartHtml i) h = absurd (h.no_start_html i refl)
+modes_kept m (EndHtml i) h = absurd (h.no_end_html i refl)
+modes_kept m (StartSubscript i) h = refl
+modes_kept m (EndSubscript i) h = refl
+modes_kept m (StartItalic i) h = refl
+modes_kept m (EndItalic i) h = refl
+modes_kept m (BibTag s) h = refl
 
 -- ---- the modes
 
