@@ -16,6 +16,11 @@ use Rattle.comment_parser.proofs.items.Items.new.Goals.{In_ok-check_span}
 good : (c : In_ok-check_span) → none ≡ span_refusal (length c.args.buf.now) c.args.start c.args.end
 good c = ap checked_answer (sym c.in_ok-check_span.was) ∙ c.check_span.ensures
 
+pub returns : goal.returns
+returns c =
+    let a = c.args in
+    (good (goal.at.returns c).In_ok-check_span, ap (λ (st : ParserState). events_from (named st.reading) a.buf.now st) c.new.ensures ∙ events_start a.reading a.buf.now a.start a.end)
+
 pub invariant_of-result : goal.invariant_of-result
 invariant_of-result c =
     let a = c.args in
@@ -23,8 +28,3 @@ invariant_of-result c =
       accepted = rw c.new.ensures (fresh_accepted a.reading a.buf.now a.start a.end (good (goal.at.invariant_of-result c).In_ok-check_span));
       noted = holds_nothing (take c.new.result.end a.buf.now) c.nothing.result c.nothing.ensures.1;
     }
-
-pub returns : goal.returns
-returns c =
-    let a = c.args in
-    (good (goal.at.returns c).In_ok-check_span, ap (λ (st : ParserState). events_from (named st.reading) a.buf.now st) c.new.ensures ∙ events_start a.reading a.buf.now a.start a.end)
