@@ -39,6 +39,23 @@ within_says {buf} {st} {note} {r} k says =
       reads = λ h. let given = says h in record { is = ap given_as given.is ∙ sym (next_is _ buf st k); holds = given.holds };
     }
 
+-- what `next_noted` promises of its answer, by a note that holds
+module _ {buf : List ℕ} {st : ParserState} {note : Note} {r : Noted Next} (holds : Holds (take st.end buf) note) (says : NextBy buf st note (Ok r)) where
+  pub told_seen : (o : Maybe CommentItem) → r.value.item ≡ o → seen (named st.reading) buf st ≡ paired o r.value.state
+  unfolding seen
+  told_seen o e = rw (← (says.reads holds).is, e)
+
+  -- an event: less is to come, and the state and the note after it are good to go on with
+  module _ {i : CommentItem} (e : r.value.item ≡ Some i) where
+    pub told_less : GoesOn st r.value.state
+    told_less = seen_on (named st.reading) buf st (i, r.value.state) (told_seen (Some i) e)
+
+    pub told_accepted : Accepted buf r.value.state
+    told_accepted = stays_accepted (named st.reading) buf st (i, r.value.state) (told_seen (Some i) e)
+
+    pub told_noted : Holds (take r.value.state.end buf) r.note
+    told_noted = rw told_less.same_end (says.reads holds).holds
+
 -- a state on the way, in the reading that it names, with the note to go on with
 pub record Along (rd : Reading) (buf : List ℕ) (st : ParserState) (note : Note) : Type 0 where
   pub reads : named st.reading ≡ rd
@@ -58,11 +75,10 @@ pub along_refused : {rd : Reading} {buf : List ℕ} {st : ParserState} {note : N
 unfolding seen
 along_refused a says = rw (← a.reads, ← (says.reads a.noted).is) refl
 
--- what `next_noted` promises of its answer
+-- the same along the way
 module _ {rd : Reading} {buf : List ℕ} {st : ParserState} {note : Note} {r : Noted Next} (a : Along rd buf st note) (says : NextBy buf st note (Ok r)) where
   along_seen : (o : Maybe CommentItem) → r.value.item ≡ o → seen rd buf st ≡ paired o r.value.state
-  unfolding seen
-  along_seen o e = rw (← a.reads, ← (says.reads a.noted).is, e)
+  along_seen o e = rw (← a.reads) (told_seen a.noted says o e)
 
   pub along_end : ((i : CommentItem) → r.value.item ≡ Some i → ⊥) → seen rd buf st ≡ none
   along_end k = along_seen r.value.item refl ∙ none_given r.value.item r.value.state k
@@ -73,13 +89,13 @@ module _ {rd : Reading} {buf : List ℕ} {st : ParserState} {note : Note} {r : N
     along_event = along_seen (Some i) e
 
     pub along_less : GoesOn st r.value.state
-    along_less = seen_on rd buf st (i, r.value.state) along_event
+    along_less = told_less a.noted says e
 
     lies : Lies i r.value.state
     lies = seen_lies rd buf st (i, r.value.state) along_event a.reached
 
     pub along_accepted : Accepted buf r.value.state
-    along_accepted = stays_accepted rd buf st (i, r.value.state) along_event
+    along_accepted = told_accepted a.noted says e
 
     pub along_within : Within 0 longest (placed_of i)
     along_within =
@@ -92,4 +108,4 @@ module _ {rd : Reading} {buf : List ℕ} {st : ParserState} {note : Note} {r : N
         record { above = omega arith; placed = lies.within.placed; ordered = lies.within.ordered; below = omega (arith, lies.within.below, k.inside, k.fits) }
 
     pub along_on : Along rd buf r.value.state r.note
-    along_on = record { reads = ap named along_less.same_reading ∙ a.reads; reached = lies.reached; noted = rw along_less.same_end (says.reads a.noted).holds }
+    along_on = record { reads = ap named along_less.same_reading ∙ a.reads; reached = lies.reached; noted = told_noted a.noted says e }

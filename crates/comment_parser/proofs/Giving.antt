@@ -16,12 +16,14 @@ use Rattle.records.specs.declared.Wrote.{Wrote}
 use Rattle.records.proofs.Laws.{Wide}
 use Rattle.records.proofs.Laying.{Laying, tail, back, laying_starts, laying_wrote}
 use Rattle.comment_parser.specs.State.{Accepted, fresh}
-use Rattle.comment_parser.specs.Events.{left, seen}
+use Rattle.comment_parser.specs.Events.{left, seen, events_from}
 use Rattle.comment_parser.specs.Notes.{NextBy}
 use Rattle.comment_parser.specs.declared.CommentItem.{CommentItem}
 use Rattle.comment_parser.specs.declared.Next.{Next}
 use Rattle.scans.specs.declared.Noted.{Noted}
 use Rattle.comment_parser.specs.declared.ParserState.{ParserState}
+use Rattle.comment_parser.proofs.Events.{events_on, events_end}
+use Rattle.comment_parser.proofs.ItemsLaid.{Gives}
 use Rattle.comment_parser.proofs.Along.{Along, along_starts, along_event, along_less, along_accepted, along_on}
 
 -- what an event gives, at most one record of k words, and the records from a state on
@@ -30,6 +32,16 @@ pub record Giving (rd : Reading) (k : ℕ) (buf : List ℕ) (give : CommentItem 
   pub one : (i : CommentItem) → length (give i) ≤ 1
   pub on : (st : ParserState) (i : CommentItem) (t : ParserState) → seen rd buf st ≡ some (i, t) → rest st ≡ give i ++ rest t
   pub over : (st : ParserState) → seen rd buf st ≡ none → rest st ≡ []
+
+-- what gives the records of a list of events, as a loop over the iterator lays them, gives those from a state on
+pub gives_along : (rd : Reading) {k : ℕ} (buf : List ℕ) {give : CommentItem → List (List ℕ)} {records : List CommentItem → List (List ℕ)} → Gives k give records
+    → Giving rd k buf give (λ (st : ParserState). records (events_from rd buf st))
+gives_along rd buf gives = record {
+  wide = gives.wide;
+  one = gives.one;
+  on = λ st i t h. rw (events_on rd buf st i t h) (gives.on i (events_from rd buf t));
+  over = λ st h. rw (events_end rd buf st h) gives.over;
+}
 
 -- at the loop's head: the records from here on are to be laid behind those before, and the count fits
 pub record Going (rd : Reading) (k : ℕ) (buf : List ℕ) (rest : ParserState → List (List ℕ)) (all : List (List ℕ)) (out₀ out : List ℕ) (st : ParserState) (note : Note) (at n : ℕ) : Type 0 where

@@ -1,11 +1,11 @@
 -- Along the events of a span: the first state is accepted, and what a step gives is the first of what was left.
 -- Assumes nothing.
 use Prim.Native.Nat.{ℕ}
-use mathlib.Core.Path.{◌≡◌, sym, ap, ◌∙◌}
+use mathlib.Core.Path.{◌≡◌, sym, ap}
 use mathlib.Core.List.{List, [], ◌∷◌}
 use mathlib.Core.Option.{none}
 use lib.ListN.{length, take}
-use Rattle.std.specs.Prelude.{Option as Maybe, Some, None}
+use Rattle.std.specs.Prelude.{Some, None, Ok}
 use Rattle.records.specs.Answer.{span_refusal}
 use Rattle.records.proofs.Answers.{span_accepted}
 use Rattle.byte_rules.specs.Reading.{named}
@@ -13,14 +13,15 @@ use Rattle.byte_rules.specs.declared.reading.Reading.{Reading as Name}
 use Rattle.scans.specs.declared.Note.{Note}
 use Rattle.comment_parser.specs.State.{Accepted, fresh}
 use Rattle.comment_parser.specs.Next.{answered}
-use Rattle.comment_parser.specs.Events.{paired, seen, events_from}
+use Rattle.comment_parser.specs.Events.{events_from}
+use Rattle.comment_parser.specs.Notes.{NextBy}
 use Rattle.scans.specs.Notes.{Holds, IsNoted}
 use Rattle.comment_parser.specs.declared.CommentItem.{CommentItem}
 use Rattle.comment_parser.specs.declared.Next.{Next}
 use Rattle.scans.specs.declared.Noted.{Noted}
 use Rattle.comment_parser.specs.declared.ParserState.{ParserState}
-use Rattle.comment_parser.proofs.Turns.{GoesOn}
-use Rattle.comment_parser.proofs.Events.{seen_is, seen_on, stays_accepted, events_on, events_end}
+use Rattle.comment_parser.proofs.Events.{events_on, events_end}
+use Rattle.comment_parser.proofs.Along.{within_says, told_seen, told_less, told_accepted, told_noted}
 
 -- the fresh state of a span that is not refused
 pub fresh_accepted : (name : Name) (buf : List ℕ) (start end : ℕ) → none ≡ span_refusal (length buf) start end → Accepted buf (fresh name start end)
@@ -28,23 +29,20 @@ fresh_accepted name buf start end good = let a = span_accepted (length buf) star
 
 module _ (buf : List ℕ) (st : ParserState) (note : Note) (r : Noted Next) (ok : Accepted buf st) (holds : Holds (take st.end buf) note)
     (read : Holds (take st.end buf) note → IsNoted (take st.end buf) (answered (named st.reading) buf st) r) where
-  given : (o : Maybe CommentItem) → r.value.item ≡ o → seen (named st.reading) buf st ≡ paired o r.value.state
-  given o e = seen_is (named st.reading) buf st ok ∙ rw (← (read holds).is, e)
+  says : NextBy buf st note (Ok r)
+  says = within_says ok read
 
   -- an event: it is the first of what was left, and the state and the note after it are good to go on with
   module _ (i : CommentItem) (e : r.value.item ≡ Some i) where
-    on : GoesOn st r.value.state
-    on = seen_on (named st.reading) buf st (i, r.value.state) (given (Some i) e)
-
     pub item_first : events_from (named st.reading) buf st ≡ i ∷ events_from (named r.value.state.reading) buf r.value.state
-    item_first = rw (ap named on.same_reading) (events_on (named st.reading) buf st i r.value.state (given (Some i) e))
+    item_first = rw (ap named (told_less holds says e).same_reading) (events_on (named st.reading) buf st i r.value.state (told_seen holds says (Some i) e))
 
     pub item_accepted : Accepted buf r.value.state
-    item_accepted = stays_accepted (named st.reading) buf st (i, r.value.state) (given (Some i) e)
+    item_accepted = told_accepted holds says e
 
     pub item_noted : Holds (take r.value.state.end buf) r.note
-    item_noted = rw on.same_end (read holds).holds
+    item_noted = told_noted holds says e
 
   -- none: nothing was left
   pub no_item : r.value.item ≡ None → events_from (named st.reading) buf st ≡ []
-  no_item e = events_end (named st.reading) buf st (given None e)
+  no_item e = events_end (named st.reading) buf st (told_seen holds says None e)
