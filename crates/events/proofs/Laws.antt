@@ -1,7 +1,7 @@
 -- The event records, an event at a time: each event gives its record. With their lines, which fit a word, they are the records of the span.
 -- Assumes nothing.
 use Prim.Native.Nat.{ℕ, ◌≤◌}
-use mathlib.Core.Path.{◌≡◌, refl, sym, ap, ◌∙◌}
+use mathlib.Core.Path.{◌≡◌, refl, sym, ap, subst, ◌∙◌}
 use mathlib.Core.List.Memᴰ
 use mathlib.Core.List.{List, [], ◌∷◌, map}
 use mathlib.Core.Option.{none}
@@ -25,8 +25,8 @@ use Rattle.comment_parser.specs.State.{fresh}
 use Rattle.comment_parser.specs.Events.{events_of}
 use Rattle.comment_parser.specs.Places.{PlaceOf, at_byte, at_end_case}
 use Rattle.comment_parser.specs.declared.CommentItem.{CommentItem}
-use Rattle.comment_parser.proofs.Events.{events_on, events_end, events_start}
-use Rattle.comment_parser.proofs.Giving.{Giving}
+use Rattle.comment_parser.proofs.Events.{events_start}
+use Rattle.comment_parser.proofs.Giving.{Giving, gives_along}
 use Rattle.comment_parser.proofs.ItemsLaid.{Gives}
 use Rattle.comment_parser.proofs.Places.{every_place}
 use Rattle.events.specs.Events.{event_width, placed_record, placed_from, placed_records, event_records}
@@ -35,17 +35,16 @@ use Rattle.events.specs.Events.{event_width, placed_record, placed_from, placed_
 pub records_give : Gives event_width (λ (i : CommentItem). placed_record i ∷ []) (map placed_record)
 records_give = record { wide = λ i. (refl, tt); one = λ i. omega arith; on = λ i is. refl; over = refl }
 
+-- the records of a span are those of its events, one of each
+records_are : (rd : Reading) (buf : List ℕ) (start end : ℕ) → map placed_record (events_of rd buf start end) ≡ placed_records rd buf start end
+records_are rd buf start end = refl
+
 -- the same of the events from a state on, and the records of a span are those from a fresh start on
 pub records_given : (rd : Reading) (buf : List ℕ) → Giving rd event_width buf (λ (i : CommentItem). placed_record i ∷ []) (placed_from rd buf)
-records_given rd buf = record {
-  wide = λ i. (refl, tt);
-  one = λ i. omega arith;
-  on = λ st i t h. ap (map placed_record) (events_on rd buf st i t h);
-  over = λ st h. ap (map placed_record) (events_end rd buf st h);
-}
+records_given rd buf = gives_along rd buf records_give
 
 pub records_start : (name : Name) (buf : List ℕ) (start end : ℕ) → placed_from (named name) buf (fresh name start end) ≡ placed_records (named name) buf start end
-records_start name buf start end = ap (map placed_record) (events_start name buf start end)
+records_start name buf start end = ap (map placed_record) (events_start name buf start end) ∙ records_are (named name) buf start end
 
 records_wide : (is : List CommentItem) → Wide event_width (map placed_record is)
 records_wide [] = tt
@@ -77,10 +76,13 @@ module _ (rd : Reading) (buf : List ℕ) (start end : ℕ) (room : List ℕ) (go
   fit =
       let accepted = span_accepted (length buf) start end (sym good) in
       let short : length buf ≤ longest = omega arith in
-      all_fit rd buf short start end (events_of rd buf start end) (event_fits rd buf short start end)
+      subst (AllFit buf) (records_are rd buf start end) (all_fit rd buf short start end (events_of rd buf start end) (event_fits rd buf short start end))
+
+  wide : Wide event_width (placed_records rd buf start end)
+  wide = subst (Wide event_width) (records_are rd buf start end) (records_wide (events_of rd buf start end))
 
   pub events_counted : n ≡ length (event_records rd buf start end)
-  events_counted = lined_counted buf (placed_records rd buf start end) room (records_wide (events_of rd buf start end)) fit counted is
+  events_counted = lined_counted buf (placed_records rd buf start end) room wide fit counted is
 
   pub events_laid : filled buf n out ≡ laid event_width (event_records rd buf start end) room
-  events_laid = lined_laid buf (placed_records rd buf start end) room (records_wide (events_of rd buf start end)) fit counted is
+  events_laid = lined_laid buf (placed_records rd buf start end) room wide fit counted is

@@ -23,8 +23,8 @@ use Rattle.comment_parser.specs.declared.CommentItem.TheVariants.{Text, LineBrea
 use Rattle.comment_parser.specs.State.{fresh}
 use Rattle.comment_parser.specs.Events.{events_from}
 use Rattle.comment_parser.specs.declared.ParserState.{ParserState}
-use Rattle.comment_parser.proofs.Events.{events_on, events_end, events_start}
-use Rattle.comment_parser.proofs.Giving.{Giving}
+use Rattle.comment_parser.proofs.Events.{events_start}
+use Rattle.comment_parser.proofs.Giving.{Giving, gives_along}
 use Rattle.comment_parser.proofs.ItemsLaid.{Gives}
 use Rattle.basics.specs.declared.Span.{Span}
 use Rattle.links.specs.Links.{link_width, name_of, link_to, label_links, item_links, links_from, links_of}
@@ -115,13 +115,7 @@ module _ (rd : Reading) (buf bytes ends : List ℕ) where
   links_on st = links_from buf bytes ends (events_from rd buf st)
 
   pub links_given : Giving rd link_width buf (item_links buf bytes ends) links_on
-  unfolding links_from
-  links_given = record {
-    wide = each_item buf bytes ends (Wide link_width) tt (link_wide buf bytes ends);
-    one = each_item buf bytes ends (λ ws. length ws ≤ 1) (omega arith) (link_one buf bytes ends);
-    on = λ st i t h. ap (links_from buf bytes ends) (events_on rd buf st i t h);
-    over = λ st h. ap (links_from buf bytes ends) (events_end rd buf st h);
-  }
+  links_given = gives_along rd buf (links_give buf bytes ends)
 
 -- the links of a span are those from a fresh start on
 pub links_start : (name : Name) (buf bytes ends : List ℕ) (start end : ℕ) → links_on (named name) buf bytes ends (fresh name start end) ≡ links_of (named name) buf bytes ends start end
