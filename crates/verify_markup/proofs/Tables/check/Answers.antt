@@ -1,6 +1,7 @@
 -- `Tables::check` meets its contract, table by table.
 -- Assumes nothing.
 use mathlib.Core.Path.{refl}
+use native.Mathlib.Omega.{arith}
 use Rattle.std.proofs.lemmas.Result.{err_from_is_err_and}
 use Rattle.basics.proofs.Laws.{the_one}
 use Rattle.verify_markup.specs.Check.{tables_refusal}
@@ -29,4 +30,4 @@ returns-in-NotLent c = rw c.in-NotLent.is (go_on c.in_ok-check.ensures (go_on c.
 
 pub returns-in-NoTagLookup : goal.returns-in-NoTagLookup
 unfolding tables_refusal
-returns-in-NoTagLookup c = rw c.in-NoTagLookup.is (go_on c.in_ok-check.ensures (go_on c.in_ok-check-2.ensures refl))
+returns-in-NoTagLookup c = rw c.in-NoTagLookup.is (go_on c.in_ok-check.ensures (go_on c.in_ok-check-2.ensures (grind (arith, c.in_ok-check.ensures))))
