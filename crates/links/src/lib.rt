@@ -23,7 +23,7 @@ pub const LINK_WIDTH: usize = 3;
 
 // The link of a label, looked up unescaped, in a table that was checked.
 #[tactic(auto, using(crate::proofs::Laws::label_found, crate::proofs::Laws::label_missing), unfolding(records::specs::Records::laid, records::specs::Records::used))]
-fn lay_label(buf: &[u8], label: Span, labels: Table<'_>, room: &mut [u32]) -> Wrote
+fn lay_label(buf: &[u8], label: Span, labels: Table<'_, '_>, room: &mut [u32]) -> Wrote
     requires ordered { label.start ≤ label.end }
     requires inside { label.end ≤ length buf.now }
     requires short { length buf.now ≤ longest }
@@ -45,7 +45,7 @@ fn lay_label(buf: &[u8], label: Span, labels: Table<'_>, room: &mut [u32]) -> Wr
 
 // What an event gives: a Label its link, any other none.
 #[tactic(auto, using(crate::proofs::Laws::silent_wrote, crate::proofs::Laws::silent_left))]
-fn lay_item(buf: &[u8], item: CommentItem, labels: Table<'_>, room: &mut [u32]) -> Wrote
+fn lay_item(buf: &[u8], item: CommentItem, labels: Table<'_, '_>, room: &mut [u32]) -> Wrote
     requires inside { Within 0 (length buf.now) (placed_of item) }
     requires short { length buf.now ≤ longest }
     requires good { none ≡ table_refusal 1 labels.bytes.now labels.ends.now }
@@ -66,7 +66,7 @@ pub fn links(
     buf: &[u8],
     start: usize,
     end: usize,
-    labels: Table<'_>,
+    labels: Table<'_, '_>,
     out: &mut [u32],
 ) -> Result<usize, FillError>
     ensures answer { filled_answer result

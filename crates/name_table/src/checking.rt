@@ -6,7 +6,7 @@ ghost use Rattle.name_table.specs.Table.{end_of, start_of, name_at, not_greater,
 use crate::Table;
 use records::Refusal;
 
-impl<'a> Table<'a> {
+impl<'b> Table<'b, '_> {
     // Where entry i's name ends; 0 past the last, as before the first.
     fn end_of(self, i: usize) -> usize
         ensures { result ≡ end_of self.entry.ends.now i }
@@ -23,7 +23,7 @@ impl<'a> Table<'a> {
     }
 
     // Entry i's name; where its ends are bad, what lies of it in the bytes.
-    pub(crate) fn name_at(self, i: usize) -> &'a [u8]
+    pub(crate) fn name_at(self, i: usize) -> &'b [u8]
         ensures { result.now ≡ name_at self.entry.bytes.now self.entry.ends.now i }
     {
         let end = self.end_of(i).min(self.bytes.len());

@@ -7,7 +7,7 @@ use crate::ordering::{compare, plainly};
 use crate::{Spelling, Table};
 use std::cmp::Ordering;
 
-impl Table<'_> {
+impl Table<'_, '_> {
     // The entry of the name that the text spells, by halving. How it spells is a parameter of its own: only a search asks both.
     // The library's searches over `ends` tell of an entry its end alone, and where a name starts is the end before it.
     pub fn search(self, how: Spelling, text: &[u8]) -> Option<usize>

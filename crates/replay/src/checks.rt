@@ -7,7 +7,7 @@ use verify_markup::{Bibliography, DIAG_WIDTH, Tables, verify_markup};
 // The diagnostics of the span, listed in the words. At flag 1 tags are not looked up; else they are, in the bibliography that is lent, or in none.
 pub fn list_diagnostics(
     case: Case<'_>,
-    mut tables: Tables<'_>,
+    mut tables: Tables<'_, '_, '_, '_, '_, '_>,
     words: &mut [u32],
     output: &mut Writer<'_>,
 ) -> Result<(), BadCase> {

@@ -7,7 +7,7 @@ use programs::Writer;
 use verify_markup::{Bibliography, Tables};
 
 // A table without names.
-pub const EMPTY: Table<'static> = Table {
+pub const EMPTY: Table<'static, 'static> = Table {
     bytes: &[],
     ends: &[],
 };
@@ -15,7 +15,7 @@ pub const EMPTY: Table<'static> = Table {
 // The name looked up in the table: 1 and its entry, or 0. In a bibliography that is not lent nothing is found.
 pub fn looking_up(
     case: Case<'_>,
-    tables: Tables<'_>,
+    tables: Tables<'_, '_, '_, '_, '_, '_>,
     output: &mut Writer<'_>,
 ) -> Result<(), BadCase> {
     let table = match case.header.flag {
@@ -38,7 +38,7 @@ pub fn looking_up(
 // The links of the span to the labels, listed in the words.
 pub fn list_links(
     case: Case<'_>,
-    tables: Tables<'_>,
+    tables: Tables<'_, '_, '_, '_, '_, '_>,
     words: &mut [u32],
     output: &mut Writer<'_>,
 ) -> Result<(), BadCase> {

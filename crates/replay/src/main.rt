@@ -45,7 +45,7 @@ fn lent<T: Pattern>(room: &mut [T], header: Header) -> Result<&mut [T], BadCase>
 // The answer of a case, by its op.
 fn answer(
     case: Case<'_>,
-    tables: Tables<'_>,
+    tables: Tables<'_, '_, '_, '_, '_, '_>,
     room: &mut [u8],
     words: &mut [u32],
     output: &mut Writer<'_>,
@@ -92,7 +92,7 @@ struct Areas {
 }
 
 // The bibliography that stands, if one is lent.
-fn bibliography_of(room: &Small) -> Bibliography<'_> {
+fn bibliography_of(room: &Small) -> Bibliography<'_, '_> {
     match room.table() {
         Some(table) => Bibliography::Lent(table),
         None => Bibliography::NotLent,

@@ -54,7 +54,7 @@ impl<const B: usize, const E: usize> Room<B, E> {
     }
 
     // The table that stands here, if one was lent.
-    pub fn table(&self) -> Option<Table<'_>> {
+    pub fn table(&self) -> Option<Table<'_, '_>> {
         let size = self.size?;
         Some(Table {
             bytes: &self.bytes[..size.bytes],

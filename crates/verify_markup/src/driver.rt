@@ -21,7 +21,12 @@ use lines::fill_lines;
 use records::{FillError, Refusal, Wrote, fits};
 
 // Lays the diagnostics of a span's events, but for their lines, as many as fit, and counts them.
-fn lay_all(part: Part<'_>, items: Items<'_>, tables: Tables<'_>, out: &mut [u32]) -> Wrote
+fn lay_all(
+    part: Part<'_>,
+    items: Items<'_>,
+    tables: Tables<'_, '_, '_, '_, '_, '_>,
+    out: &mut [u32],
+) -> Wrote
     requires { LiesIn part.span (items_left items) }
     ensures { let p = part.entry in
         Writes (diags_from p.buf.now p.span.end (lent_names tables.entry) closed (items_left items.entry)) out.old out.new result }
@@ -41,7 +46,7 @@ fn lay_all(part: Part<'_>, items: Items<'_>, tables: Tables<'_>, out: &mut [u32]
     wrote.then(last)
 }
 
-impl Tables<'_> {
+impl Tables<'_, '_, '_, '_, '_, '_> {
     // 4 for the lowest table that is malformed.
     fn check(self) -> Result<(), Refusal>
         ensures { checked_answer result ≡ tables_refusal (lent_tables self.entry) }
@@ -62,7 +67,7 @@ pub fn verify_markup(
     buf: &[u8],
     start: usize,
     end: usize,
-    tables: Tables<'_>,
+    tables: Tables<'_, '_, '_, '_, '_, '_>,
     out: &mut [u32],
 ) -> Result<usize, FillError>
     ensures answer { filled_answer result ≡ check_answer (named reading) buf.now start end (lent_tables tables.entry) (length out.old) }

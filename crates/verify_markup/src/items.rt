@@ -21,7 +21,7 @@ use records::Wrote;
 use unescape::Escape;
 
 // The search finds no entry of the name that the text spells.
-fn lacks(table: Table<'_>, how: Spelling, text: &[u8]) -> bool
+fn lacks(table: Table<'_, '_>, how: Spelling, text: &[u8]) -> bool
     ensures { result ≡ is_missing (lent_search table.entry (spelled how text.now)) }
 {
     table.search(how, text).is_none()
@@ -29,7 +29,7 @@ fn lacks(table: Table<'_>, how: Spelling, text: &[u8]) -> bool
 
 // A MathToken, looked up unescaped.
 #[tactic(auto, unfolding(name_table::specs::Spelling::spelled, crate::specs::Items::token_diags))]
-fn lay_token(part: Part<'_>, symbols: Table<'_>, room: &mut [u32]) -> Wrote
+fn lay_token(part: Part<'_>, symbols: Table<'_, '_>, room: &mut [u32]) -> Wrote
     ensures { let p = part.entry in
         Writes (token_diags p.buf.now (lent_search symbols.entry) p.span.start p.span.end) room.old room.new result }
 {
@@ -61,7 +61,7 @@ fn lay_link(link: Link<'_>, room: &mut [u32]) -> Wrote
 
 // A label's name, looked up unescaped.
 #[tactic(auto, unfolding(name_table::specs::Spelling::spelled, crate::specs::Items::name_diags))]
-fn lay_name(link: Link<'_>, labels: Table<'_>, room: &mut [u32]) -> Wrote
+fn lay_name(link: Link<'_>, labels: Table<'_, '_>, room: &mut [u32]) -> Wrote
     ensures { let p = link.entry.part in
         Writes (name_diags p.buf.now (lent_search labels.entry) link.entry.tilde p.span.start p.span.end) room.old room.new result }
 {
@@ -73,7 +73,7 @@ fn lay_name(link: Link<'_>, labels: Table<'_>, room: &mut [u32]) -> Wrote
     lay_if(unknown, Diagnostic::UnknownLabel(span), room)
 }
 
-fn lay_label(link: Link<'_>, labels: Table<'_>, room: &mut [u32]) -> Wrote
+fn lay_label(link: Link<'_>, labels: Table<'_, '_>, room: &mut [u32]) -> Wrote
     ensures { let p = link.entry.part in
         Writes (label_diags p.buf.now (lent_search labels.entry) link.entry.tilde p.span.start p.span.end) room.old room.new result }
 {
@@ -104,7 +104,7 @@ fn lay_bib_escapes(part: Part<'_>, room: &mut [u32]) -> Wrote
 
 // Tags are looked up, as they stand, and this one is not found.
 #[tactic(auto, unfolding(name_table::specs::Spelling::spelled))]
-fn no_tag(bibliography: Bibliography<'_>, tag: &[u8]) -> bool
+fn no_tag(bibliography: Bibliography<'_, '_>, tag: &[u8]) -> bool
     ensures { result ≡ no_tag (lent_tags bibliography.entry) tag.now }
 {
     match bibliography {
@@ -114,7 +114,7 @@ fn no_tag(bibliography: Bibliography<'_>, tag: &[u8]) -> bool
     }
 }
 
-fn lay_tag(part: Part<'_>, bibliography: Bibliography<'_>, room: &mut [u32]) -> Wrote
+fn lay_tag(part: Part<'_>, bibliography: Bibliography<'_, '_>, room: &mut [u32]) -> Wrote
     ensures { let p = part.entry in
         Writes (tag_diags p.buf.now (lent_tags bibliography.entry) p.span.start p.span.end) room.old room.new result }
 {
@@ -133,7 +133,7 @@ pub(crate) fn lay_item(
     buf: &[u8],
     html: bool,
     item: CommentItem,
-    tables: Tables<'_>,
+    tables: Tables<'_, '_, '_, '_, '_, '_>,
     room: &mut [u32],
 ) -> Wrote
     requires { (length buf.now ≤ longest) × Within 0 (length buf.now) (placed_of item) }

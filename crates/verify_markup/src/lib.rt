@@ -15,18 +15,18 @@ use name_table::Table;
 
 // What a call says of the bibliography: here it is; there is none, and every tag is undefined; or, by name, that tags are not looked up.
 #[derive(Clone, Copy)]
-pub enum Bibliography<'a> {
-    Lent(Table<'a>),
+pub enum Bibliography<'b, 'e> {
+    Lent(Table<'b, 'e>),
     NotLent,
     NoTagLookup,
 }
 
-// The tables that a call is lent.
+// The tables that a call is lent. Each slice has a lifetime of its own, as in a call that takes them one by one.
 #[derive(Clone, Copy)]
-pub struct Tables<'a> {
-    pub symbols: Table<'a>,
-    pub labels: Table<'a>,
-    pub bibliography: Bibliography<'a>,
+pub struct Tables<'sb, 'se, 'lb, 'le, 'bb, 'be> {
+    pub symbols: Table<'sb, 'se>,
+    pub labels: Table<'lb, 'le>,
+    pub bibliography: Bibliography<'bb, 'be>,
 }
 
 // Where math and HTML were opened, if they are open.
