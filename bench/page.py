@@ -24,22 +24,22 @@ BUFFER = "buffer"
 PUBLIC = [
     ("is_valid_label", "call_is_valid_label", ["the label"]),
     ("is_reserved_name", "call_is_reserved_name", ["the name"]),
-    ("unescape, unescape_text", "call_unescape_text", [BUFFER, ("U", 0)]),
-    ("unescape_label", "call_unescape_label", [BUFFER, ("U", 2)]),
-    ("unescape_math", "call_unescape_math", [BUFFER, ("U", 3)]),
+    ("unescape, Escape::Text", "call_unescape_text", [BUFFER, ("U", 0)]),
+    ("unescape, Escape::Label", "call_unescape_label", [BUFFER, ("U", 2)]),
+    ("unescape, Escape::Math", "call_unescape_math", [BUFFER, ("U", 3)]),
     ("ParserState::next", "call_next", [BUFFER]),
-    ("ParserState::unescape_text", "call_own_unescape_text", [BUFFER, ("U", 0)]),
-    ("ParserState::unescape_label", "call_own_unescape_label", [BUFFER, ("U", 2)]),
-    ("ParserState::unescape_math", "call_own_unescape_math", [BUFFER, ("U", 3)]),
+    ("ParserState::unescape, Form::Text", "call_own_unescape_text", [BUFFER, ("U", 0)]),
+    ("ParserState::unescape, Form::Label", "call_own_unescape_label", [BUFFER, ("U", 2)]),
+    ("ParserState::unescape, Form::Math", "call_own_unescape_math", [BUFFER, ("U", 3)]),
     ("events", "call_events", [BUFFER, ("E", 0)]),
     ("ParentheticalState::new", "call_parenthetical_new", [BUFFER]),
     ("ParentheticalState::next", "call_parenthetical_next", [BUFFER]),
     ("parentheticals", "call_parentheticals", [BUFFER, ("P", 0)]),
     ("Discouragements::new", "call_discouragements", [BUFFER]),
     ("lookup, in the labels", "call_lookup", [2, "the name"]),
-    ("verify_markup", "call_verify_markup", [BUFFER, ("C", 0), 1, 2, 3]),
-    ("verify_markup_without_bibliography", "call_verify_markup_without_bibliography", [BUFFER, WITHOUT, 1, 2]),
-    ("verify_markup_no_tag_lookup", "call_verify_markup_no_tag_lookup", [BUFFER, ("C", 1), 1, 2]),
+    ("verify_markup, Bibliography::Lent", "call_verify_markup", [BUFFER, ("C", 0), 1, 2, 3]),
+    ("verify_markup, Bibliography::NotLent", "call_verify_markup_without_bibliography", [BUFFER, WITHOUT, 1, 2]),
+    ("verify_markup, Bibliography::NoTagLookup", "call_verify_markup_no_tag_lookup", [BUFFER, ("C", 1), 1, 2]),
     ("links", "call_links", [BUFFER, ("H", 0), 2]),
     ("events_by_view; in it advance, View::open, View::next_item", "call_events_by_view", [BUFFER, ("E", 0)]),
     ("put_decimal", "call_put_decimal", ["at most 20 bytes of room"]),
@@ -225,5 +225,5 @@ The hostile texts, 65,536 bytes of each: instructions in the strict reading at r
 For the largest comment. Stack: the most that the compiled code can take on any input, return address included, arguments that the caller passes on the stack not (`stacks.py`). Lent bytes: all that the caller lends; the work area has 65,536.
 
 {table(["call", "stack", "lent", "of these"], stack_rows(facts))}
-`View::unescape` is `ParserState::unescape_text`, `_label` or `_math`, by its form.
+`View::unescape` is `ParserState::unescape`, of the same form.
 """
