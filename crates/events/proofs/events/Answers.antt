@@ -9,7 +9,6 @@ use lib.Dec.{leb}
 use lib.ListN.{length}
 use native.Mathlib.Omega.{arith}
 use Rattle.std.specs.Prelude.{◌/◌, Result, Ok, Err}
-use Rattle.std.proofs.lemmas.Grind.{common_steps}
 use Rattle.std.proofs.lemmas.Result.{err_from_is_err_and}
 use Rattle.records.specs.Answer.{filled_answer, refusal_answer, span_refusal}
 use Rattle.records.specs.declared.FillError.{FillError}
@@ -87,4 +86,4 @@ returns c =
     let answered : (x : Result ℕ FillError) → x ≡ cond (leb n (length a.out.now / event_width)) (Ok n) (Err (Short n)) → filled_answer x ≡ events_answer (named a.reading) a.buf.now a.start a.end (length a.out.now) =
     λ x is. (given x is).0 in
     let long : length c.fill_lines.new.room ≡ length a.out.now = c.fill_lines.auto.room ∙ l.long in
-    record { answer = answered _ (grind (arith, common_steps)); left = (given _ refl).1 }
+    record { answer = answered _ (grind arith); left = (given _ refl).1 }
