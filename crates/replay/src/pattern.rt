@@ -28,20 +28,24 @@ impl Pattern for u32 {
     }
 }
 
-// By index, as `put_touched`: a room may be large, and an iterator over it takes longer.
+// By hand, as in `put_touched`: a room may be large, and a plain count is compiled to many of them at a time.
 pub fn fill<T: Pattern>(room: &mut [T])
     ensures { room.new ≡ pattern_to T.at (length room.old) }
 {
-    for i in 0..room.len() {
+    let mut i = 0;
+    while i < room.len() {
         room[i] = T::pattern(i);
+        i += 1;
     }
 }
 
 // A line for each byte or word from `from` that does not hold its pattern any more.
 pub fn put_touched<T: Pattern>(output: &mut Writer<'_>, room: &[T], from: usize) {
-    for i in from..room.len() {
+    let mut i = from;
+    while i < room.len() {
         if room[i] != T::pattern(i) {
             output.line(b"touched", &[i as u64]);
         }
+        i += 1;
     }
 }
