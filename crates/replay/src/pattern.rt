@@ -4,7 +4,8 @@ ghost use Rattle.replay.specs.Pattern.{pattern_to};
 
 use programs::Writer;
 
-// A byte or a word of a room. What the one at i holds before a call depends on the index and is never 0.
+// A byte or a word of a room. What the one at i holds before a call depends on the index and is never 0. An index that fits a word, as
+// each does in these rooms, is divided as a word, which is far quicker.
 pub trait Pattern: Copy + PartialEq {
     ghost at: { ℕ → Self };
 
@@ -16,7 +17,10 @@ impl Pattern for u8 {
     ghost at = { λ i. i % 255 + 1 };
 
     fn pattern(i: usize) -> u8 {
-        (i % 255) as u8 + 1
+        match u32::try_from(i) {
+            Ok(k) => (k % 255) as u8 + 1,
+            Err(_) => (i % 255) as u8 + 1,
+        }
     }
 }
 
@@ -24,7 +28,10 @@ impl Pattern for u32 {
     ghost at = { λ i. i % 65521 + 1 };
 
     fn pattern(i: usize) -> u32 {
-        (i % 65521) as u32 + 1
+        match u32::try_from(i) {
+            Ok(k) => k % 65521 + 1,
+            Err(_) => (i % 65521) as u32 + 1,
+        }
     }
 }
 
