@@ -129,6 +129,10 @@ module _ (s : List ℕ) where
   pub passed_eight : {i r : ℕ} → Passed s i r → Lacking s r lparen → Passed s i (r + 8)
   passed_eight p l = passed_some 8 p l.within l.none
 
+-- the search may go on where it is
+pub passed_none : (s : List ℕ) (i : ℕ) → Passed s i i
+passed_none s i = record { same = λ bars. refl; onward = omega arith }
+
 -- where the next `(` is looked for from r on, in the rest of the text
 module _ (s : List ℕ) (i r : ℕ) (p : Passed s i r) where
   passed_run : (k : ℕ) → r + k ≤ length s → ((j : ℕ) → j < k → eqb (get_or (drop r s) j 0) lparen ≡ false) → Passed s i (r + k)

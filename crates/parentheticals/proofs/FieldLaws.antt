@@ -1,12 +1,15 @@
 -- The laws of the fields' matchers: one for each way that the code goes.
 -- Assumes nothing.
 use Prim.Native.Nat.{ℕ, suc, ◌+◌, ◌<◌, ◌≤◌}
-use mathlib.Core.Path.{◌≡◌, sym, ◌∙◌}
+use mathlib.Core.Path.{◌≡◌, refl, sym, ◌∙◌}
 use mathlib.Core.List.{List}
 use mathlib.Core.Bool.{Bool, true, false, ◌&&◌, not}
 use Rattle.std.specs.Prelude.{None, Some}
 use native.Mathlib.Numerals.{add-one}
+use native.Mathlib.Omega.{arith}
+use lib.Dec.{ltb}
 use lib.ListN.{length, get_or, drop, drop_of_length-le}
+use borrow.Author.Tests.{ltb-true, ltb-false}
 use lib.Seq.{drop-cons}
 use Rattle.byte_rules.specs.Classes.{is_credit_space, is_author_byte}
 use Rattle.byte_rules.specs.Reading.{named}
@@ -14,7 +17,8 @@ use Rattle.byte_rules.specs.Utf8.{char_len}
 use Rattle.byte_rules.specs.declared.reading.Reading.{Reading as Name}
 use Rattle.byte_rules.proofs.Laws.{author_takes, author_unbarred}
 use Rattle.byte_rules.proofs.Characters.{char_one}
-use Rattle.look.proofs.Laws.{holds_in, holds_past}
+use Rattle.look.specs.Look.{holds_at}
+use Rattle.look.proofs.Laws.{holds_in, holds_past, holds_within, holds_is}
 use Rattle.parentheticals.specs.Fields.{space_run, sign_at, phrase_at, fits, picture_at}
 use Rattle.parentheticals.specs.Fields.{author_byte, author_len}
 
@@ -33,6 +37,18 @@ module _ (s : List ℕ) (i : ℕ) where
     pub run_more : is_credit_space (get_or s i 0) ≡ true → space_run (drop i s) ≡ suc (space_run (drop (i + 1) s))
     unfolding space_run
     run_more e = rw (add-one, drop-cons s i 0 h, e)
+
+  -- by the byte at i, which may be past the end
+
+  pub run_none : holds_at is_credit_space s i ≡ false → space_run (drop i s) ≡ 0
+  run_none e = go (ltb i (length s)) refl
+    where
+      go : (t : Bool) → ltb i (length s) ≡ t → space_run (drop i s) ≡ 0
+      go true t = let h = ltb-true i (length s) t in run_stop h (sym (holds_in is_credit_space s i h) ∙ e)
+      go false t = run_past (ltb-false i (length s) t)
+
+  pub run_on : holds_at is_credit_space s i ≡ true → space_run (drop i s) ≡ suc (space_run (drop (i + 1) s))
+  run_on e = run_more (holds_within is_credit_space s i e) (holds_is is_credit_space s i e)
 
 -- ---- phrases
 
@@ -87,8 +103,14 @@ module _ (bars : ℕ → Bool) (s : List ℕ) (i : ℕ) where
     unfolding author_len author_byte
     len_other e = rw (holds_in (author_byte bars) s i h, e)
 
+-- a byte behind the `,` is an author's in either reading, and takes as many bytes as its character
+pub len_high : (n : Name) (s : List ℕ) (i : ℕ) → i < length s → 44 < get_or s i 0 → char_len s i ≡ author_len (named n).bars_author s i
+len_high n s i h above = len_char (named n).bars_author s i h (rw (author_takes (get_or s i 0) above, author_unbarred n (get_or s i 0) above))
+
 -- an ASCII byte behind the `,` is a character of an author in either reading
 pub len_one : (n : Name) (s : List ℕ) (i : ℕ) → i < length s → 44 < get_or s i 0 → get_or s i 0 < 128 → 1 ≡ author_len (named n).bars_author s i
-len_one n s i h above low =
-    sym (char_one s i h low)
-    ∙ len_char (named n).bars_author s i h (rw (author_takes (get_or s i 0) above, author_unbarred n (get_or s i 0) above))
+len_one n s i h above low = sym (char_one s i h low) ∙ len_high n s i h above
+
+-- one up to the `,` is, where the author takes it
+pub len_low : (bars : ℕ → Bool) (s : List ℕ) (i : ℕ) → i < length s → get_or s i 0 ≤ 44 → (is_author_byte (get_or s i 0) && not (bars (get_or s i 0))) ≡ true → 1 ≡ author_len bars s i
+len_low bars s i h low e = sym (char_one s i h (omega arith)) ∙ len_char bars s i h e

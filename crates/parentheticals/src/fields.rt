@@ -1,23 +1,32 @@
 // The fields of a parenthetical: each matcher answers the place past what it matched.
 ghost use Rattle.std.specs.Prelude.{◌≡◌};
+ghost use Rattle.byte_rules.specs.Classes.{is_credit_space};
 ghost use Rattle.byte_rules.specs.Reading.{named};
+ghost use Rattle.look.specs.Look.{holds_at};
 ghost use Rattle.parentheticals.specs.Fields.{space_end, spaces_at, sign_at, phrase_at, fits, picture_at, date_at, author_start, author_len};
 
 use byte_rules::utf8::char_len;
 use byte_rules::{Reading, is_author_byte, is_capital, is_credit_space, is_digit, is_small};
 use look::byte_at;
 
-// The end of the spaces at `at`.
-#[tactic(auto, using(crate::proofs::FieldLaws::run_past, crate::proofs::FieldLaws::run_stop, crate::proofs::FieldLaws::run_more))]
+// Whether a space stands at `at`.
+#[tactic(auto, unfolding(look::specs::Look::holds_at))]
+fn space_at(text: &[u8], at: usize) -> bool
+    ensures { result ≡ holds_at is_credit_space text.now at }
+{
+    text.get(at).is_some_and(|c| is_credit_space(*c))
+}
+
+// The end of the spaces at `at`. A `while`, and no `for` over the places: the loop over a phrase's bytes, which holds this one, is unrolled only then.
+#[tactic(auto, using(look::proofs::Laws::holds_within, crate::proofs::FieldLaws::run_none, crate::proofs::FieldLaws::run_on))]
 fn space_end(text: &[u8], at: usize) -> usize
     ensures { result ≡ space_end text.now at }
 {
-    for i in at..text.len() {
-        if !is_credit_space(text[i]) {
-            return i;
-        }
+    let mut i = at;
+    while space_at(text, i) {
+        i += 1;
     }
-    at.max(text.len())
+    i
 }
 
 // Spaces, one or more.
@@ -106,14 +115,14 @@ pub fn author_start(text: &[u8], at: usize) -> Option<usize>
 }
 
 // How many bytes the author's character at `at` has; 0 if none stands there, or one that the reading bars. Most bytes of an author are letters, and no
-// ASCII byte behind the `,` is barred in any reading. A number and no Option, as `char_len` in the specs.
-#[tactic(auto, using(crate::proofs::FieldLaws::len_past, crate::proofs::FieldLaws::len_char, crate::proofs::FieldLaws::len_other, crate::proofs::FieldLaws::len_one))]
+// byte behind the `,` is barred in any reading; `char_len` is asked only for what is not ASCII. A number and no Option, as `char_len` in the specs.
+#[tactic(auto, using(crate::proofs::FieldLaws::len_past, crate::proofs::FieldLaws::len_high, crate::proofs::FieldLaws::len_low, crate::proofs::FieldLaws::len_other, crate::proofs::FieldLaws::len_one))]
 pub fn author_len(reading: Reading, text: &[u8], at: usize) -> usize
     ensures { result ≡ author_len (named reading).bars_author text.now at }
 {
     match text.get(at) {
-        Some(c) if b',' < *c && *c < 128 => 1,
-        Some(c) if is_author_byte(*c) && !reading.bars_author(*c) => char_len(text, at),
+        Some(c) if b',' < *c => { if *c < 128 { 1 } else { char_len(text, at) } }
+        Some(c) if is_author_byte(*c) && !reading.bars_author(*c) => 1,
         _ => 0,
     }
 }

@@ -104,10 +104,14 @@ fn first_opening(text: &[u8]) -> Option<usize>
     text.iter().position(|b| *b == b'(')
 }
 
-// The next `(` from `from` on: before it no parenthetical begins. Most bytes are stepped over eight at a time.
+// The next `(` from `from` on: before it no parenthetical begins. Most bytes are stepped over eight at a time; the first is tested by itself, since a
+// `(` often stands right here.
 fn next_opening(text: &[u8], from: usize) -> Option<usize>
     ensures { Opens text.now from result }
 {
+    if *text.get(from)? == b'(' {
+        return Some(from);
+    }
     let mut i = from;
     while lacks_8(text, i, b'(') {
         i += 8;
@@ -153,8 +157,9 @@ pub fn next_match(reading: Reading, text: &[u8], from: usize) -> Option<Found>
             }
             i += n;
         }
+        // Noted here once: in the other arm it would be compiled to stores before each test of the tail.
+        left = Some(Span { start, end: i });
         let Some(closing) = tail_at(text, i) else {
-            left = Some(Span { start, end: i });
             continue;
         };
         let author = Span {

@@ -1,14 +1,17 @@
 -- `matching::next_opening` meets its contract: no byte that it steps over opens anything.
 -- Assumes nothing.
 use native.Mathlib.Omega.{arith}
-use Rattle.parentheticals.proofs.Candidates.{passed_eight, opens_at, opens_past, opens_none}
+use Rattle.parentheticals.proofs.Candidates.{passed_eight, passed_none, opens_at, opens_past, opens_none}
 use Rattle.parentheticals.proofs.matching.next_opening.Goals as goal
+
+pub returns-in_err-get : goal.returns-in_err-get
+returns-in_err-get c = rw c.from_residual.ensures (opens_past _ _ _ (passed_none _ _) (omega (arith, c.in_err-get.ensures.lookup)))
 
 pub loop-i-preserved : goal.loop-i-preserved
 loop-i-preserved c = passed_eight _ c.loop-i.invariant (c.lacks_8.ensures c.loop-i-test.true)
 
 pub returns-in_err-rest : goal.returns-in_err-rest
-returns-in_err-rest c = rw c.from_residual.ensures (opens_past _ _ _ c.loop-i.invariant (omega (arith, c.in_err-rest.ensures.lookup)))
+returns-in_err-rest c = rw c.from_residual-in_err-rest.ensures (opens_past _ _ _ c.loop-i.invariant (omega (arith, c.in_err-rest.ensures.lookup)))
 
 pub returns-in_err-k : goal.returns-in_err-k
 returns-in_err-k c =
