@@ -9,12 +9,16 @@ pub enum Reading {
     Strict,
 }
 
-// A backtick, `~`, `[` or `<`.
+// A backtick, `~`, `[` or `<`. Most bytes are small letters, which lie between them: two comparisons tell one, where a `match` over the four
+// takes four.
 #[tactic(auto, unfolding(crate::specs::Reading::is_mark))]
 fn is_mark(c: u8) -> bool
     ensures { result ≡ is_mark c }
 {
-    matches!(c, b'`' | b'~' | b'[' | b'<')
+    match c {
+        b'a'.. => c == b'~',
+        _ => matches!(c, b'`' | b'[' | b'<'),
+    }
 }
 
 // Three tests, as document 01 has three changes; the first two hold of the same bytes.
