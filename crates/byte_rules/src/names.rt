@@ -4,11 +4,12 @@ ghost use Rattle.byte_rules.specs.Names.{is_label_byte, is_valid_label, upper, f
 
 use crate::is_alphanumeric;
 
+// Most are letters and digits, so that is asked first.
 #[tactic(auto, unfolding(crate::specs::Names::is_label_byte))]
 fn is_label_byte(c: u8) -> bool
     ensures { result ≡ is_label_byte c }
 {
-    matches!(c, b'.' | b'-' | b'_') || is_alphanumeric(c)
+    is_alphanumeric(c) || matches!(c, b'.' | b'-' | b'_')
 }
 
 // Whether a label has none but label bytes; an empty one has.
