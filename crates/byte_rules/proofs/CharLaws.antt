@@ -1,7 +1,8 @@
 -- The character at a place, as the code finds it: past the end there is none, and at `i` it is the front of the text from i on.
 -- Assumes nothing.
 use Prim.Native.Nat.{ℕ, zero, suc, ◌≤◌, ◌<◌}
-use mathlib.Core.Path.{◌≡◌, refl}
+use mathlib.Core.Path.{◌≡◌, refl, sym}
+use borrow.Author.Tests.{le-leb}
 use mathlib.Core.Bool.{false}
 use Rattle.std.proofs.Math.Bool.{and-false}
 use mathlib.Core.List.{List, [], ◌∷◌}
@@ -40,6 +41,10 @@ module _ (s : List ℕ) (i : ℕ) where
   pub char_from : char_len (drop i s) 0 ≡ char_len s i
   unfolding char_len byte_or
   char_from = rw (get_or-drop i s 0 256, get_or-drop i s 1 256, get_or-drop i s 2 256, get_or-drop i s 3 256, add-zero)
+
+  pub char_ascii : i < length s → get_or s i 0 ≤ 127 → char_len s i ≡ 1
+  unfolding char_len is_one
+  char_ascii h low = rw (sym (byte_in s i h), le-leb (get_or s i 0) 127 low)
 
   pub char_past : length s ≤ i → 0 ≡ char_len s i
   unfolding char_len byte_or is_one is_two is_three is_four within

@@ -60,12 +60,15 @@ fn front_len(text: &[u8]) -> usize
     }
 }
 
-// How many bytes the character at `at` has; 0 if none stands there. A number and no Option, as in the specs.
+// How many bytes the character at `at` has; 0 if none stands there. A number and no Option, as in the specs. Most are ASCII, which one look
+// at the byte tells, before a slice is taken.
+#[tactic(auto, using(crate::proofs::CharLaws::char_ascii))]
 pub fn char_len(text: &[u8], at: usize) -> usize
     ensures { result ≡ char_len text.now at }
 {
-    if text.len() <= at {
-        return 0;
+    match text.get(at) {
+        None => 0,
+        Some(0..=0x7F) => 1,
+        Some(_) => front_len(&text[at..]),
     }
-    front_len(&text[at..])
 }
