@@ -65,6 +65,16 @@ fn unescaped_len(kind: Escape, text: &[u8]) -> usize
     n
 }
 
+// Puts a run into its place in a room. A call of the library's copy costs more than a byte, and an empty run, as between two marks, needs none.
+fn put_run(run: &[u8], place: &mut [u8])
+    requires { length run.now ≡ length place.old }
+    ensures { place.new ≡ run.now }
+{
+    if !run.is_empty() {
+        place.copy_from_slice(run);
+    }
+}
+
 // Writes the text unescaped at the front of `out`, which has room for it, and answers how many bytes that were. Plain bytes are copied as they stand.
 #[tactic(auto, using(crate::proofs::Runs::run_ahead, crate::proofs::Runs::run_within, crate::proofs::Laws::step_some, crate::proofs::Laws::step_within))]
 fn put_unescaped(kind: Escape, text: &[u8], out: &mut [u8]) -> usize
@@ -78,7 +88,7 @@ fn put_unescaped(kind: Escape, text: &[u8], out: &mut [u8]) -> usize
     while from < text.len() {
         let p = plain_end(text, from);
         let end = at + (p - from);
-        out[at..end].copy_from_slice(&text[from..p]);
+        put_run(&text[from..p], &mut out[at..end]);
         if text.len() <= p {
             return end;
         }

@@ -13,7 +13,7 @@ use Rattle.unescape.proofs.Runs.{run_ahead, run_within, run_same}
 use Rattle.unescape.proofs.Writing.{Writing, writing_long, writing_more, writing_goes, run_fits, writing_run, all_written, writing_left}
 use Rattle.unescape.proofs.put_unescaped.Invariants.{Wrote}
 use Rattle.unescape.proofs.put_unescaped.Goals as goal
-use Rattle.unescape.proofs.put_unescaped.Goals.{After-plain_end-p, After-copy_from_slice}
+use Rattle.unescape.proofs.put_unescaped.Goals.{After-plain_end-p, After-put_run}
 
 -- a turn: the run of plain bytes up to p
 module _ (c : After-plain_end-p) where
@@ -46,29 +46,29 @@ module _ (c : After-plain_end-p) where
 pub overflow_add-end : goal.overflow_add-end
 overflow_add-end c = let r = run_room (goal.at.overflow_add-end c).After-plain_end-p in omega arith
 
-pub slice_bounds-copy_from_slice-end : goal.slice_bounds-copy_from_slice-end
-slice_bounds-copy_from_slice-end c = run_room (goal.at.slice_bounds-copy_from_slice-end c).After-plain_end-p
+pub slice_bounds-put_run-end-in-loop-from : goal.slice_bounds-put_run-end-in-loop-from
+slice_bounds-put_run-end-in-loop-from c = run_room (goal.at.slice_bounds-put_run-end-in-loop-from c).After-plain_end-p
 
 -- the run is copied
-behind : (c : After-copy_from_slice) → let end = c.loop-from.at + (c.plain_end-p.result - c.loop-from.from) in
-    Wrote c.args.kind c.args.text.now c.plain_end-p.result c.args.out.now (put_mid c.loop-from.at (end - c.loop-from.at) c.loop-from.out c.copy_from_slice.new.self) end
+behind : (c : After-put_run) → let end = c.loop-from.at + (c.plain_end-p.result - c.loop-from.from) in
+    Wrote c.args.kind c.args.text.now c.plain_end-p.result c.args.out.now (put_mid c.loop-from.at (end - c.loop-from.at) c.loop-from.out c.put_run.new.place) end
 behind c =
-    let r = (goal.at.After-copy_from_slice c).After-plain_end-p in
-    rw c.copy_from_slice.ensures.after (writing_run (run r) _ (run_first r) (omega (arith, run_long r)))
+    let r = (goal.at.After-put_run c).After-plain_end-p in
+    rw c.put_run.ensures (writing_run (run r) _ (run_first r) (omega (arith, run_long r)))
 
 pub returns-then-text-p : goal.returns-then-text-p
 returns-then-text-p c =
-    let w = rw (unescaped_end _ _ _ c.if-text-p.true) at (behind (goal.at.returns-then-text-p c).After-copy_from_slice) in
+    let w = rw (unescaped_end _ _ _ c.if-text-p.true) at (behind (goal.at.returns-then-text-p c).After-put_run) in
     record { count = all_written w; left = writing_left w }
 
 pub bounds-out-end : goal.bounds-out-end
 bounds-out-end c =
-    let w = rw (unescaped_step _ _ _ c.if-text-p.false) at (behind (goal.at.bounds-out-end c).After-copy_from_slice) in
+    let w = rw (unescaped_step _ _ _ c.if-text-p.false) at (behind (goal.at.bounds-out-end c).After-put_run) in
     omega (arith, w.fits, writing_long w, writing_more w)
 
 pub loop-from-preserved : goal.loop-from-preserved
 loop-from-preserved c =
-    let w = rw (unescaped_step _ _ _ c.if-text-p.false) at (behind (goal.at.loop-from-preserved c).After-copy_from_slice) in
+    let w = rw (unescaped_step _ _ _ c.if-text-p.false) at (behind (goal.at.loop-from-preserved c).After-put_run) in
     rw c.unescape_step.ensures (writing_goes w)
 
 pub returns : goal.returns
