@@ -9,5 +9,5 @@ abbrev pub invariant-loop-part : goal.invariant-loop-part
 invariant-loop-part l =
     (goal.iterator-loop-part).can_next l.part-iterator ×
     (goal.iterator-loop-part).is_finite l.part-iterator ×
-    (chunks_size l.part-iterator ≡ 240) ×
+    (chunks_size l.part-iterator ≡ 224) ×
     (line_of l.buf l.from + l.n + lf_in (chunks_rest l.part-iterator) ≡ line_of l.buf l.to)
