@@ -187,6 +187,11 @@ module _ (s : List ℕ) where
   unfolding word_at
   word_not i b bs h = rw h
 
+  -- nor a word whose first byte, read from it, does not
+  pub word_first : (w : List ℕ) (i : ℕ) → 0 < length w → byte_at s i (get_or w 0 0) ≡ false → word_at s i w ≡ false
+  word_first [] i h n = absurd (omega arith)
+  word_first (b ∷ bs) i h n = word_not i b bs n
+
   -- past the end stands the empty word alone
   pub word_past : (w : List ℕ) (i : ℕ) → length s ≤ i → eqb (length w) 0 ≡ word_at s i w
   unfolding word_at

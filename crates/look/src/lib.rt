@@ -67,13 +67,25 @@ pub fn doubled_at(text: &[u8], i: usize, b: u8) -> bool
     byte_at(text, i, b) && byte_at(text, i + 1, b)
 }
 
+// The word stands at the start. Few places begin as it does, and a call of the library's comparison costs more than one byte, so the first
+// byte is asked before.
+#[tactic(auto, using(crate::proofs::Laws::starts_word, crate::proofs::Laws::word_first))]
+fn starts(text: &[u8], word: &[u8]) -> bool
+    ensures { result ≡ word_at text.now 0 word.now }
+{
+    match word.first() {
+        Some(first) if !byte_at(text, 0, *first) => false,
+        _ => text.starts_with(word),
+    }
+}
+
 // The word stands at i.
 #[tactic(auto, using(crate::proofs::Laws::word_past))]
 pub fn word_at(text: &[u8], i: usize, word: &[u8]) -> bool
     ensures { result ≡ word_at text.now i word.now }
 {
     match text.get(i..) {
-        Some(rest) => rest.starts_with(word),
+        Some(rest) => starts(rest, word),
         None => word.is_empty(),
     }
 }

@@ -4,7 +4,7 @@ use Rattle.std.proofs.Common.{rules, ◌≡◌, ◌-◌}
 use mathlib.Core.Path.{◌∙◌}
 use lib.ListN.{length, take, drop}
 use Rattle.basics.proofs.Laws.{rest_is}
-use Rattle.look.proofs.Laws.{word_here, starts_word}
+use Rattle.look.proofs.Laws.{word_here}
 use Rattle.look.proofs.word_at.Goals as goal
 
 pub returns-in-Some : goal.returns-in-Some
@@ -12,4 +12,4 @@ returns-in-Some c =
     let a = c.args in
     let r : c.in-Some.rest.now ≡ take (length a.text.now - a.i) (drop a.i a.text.now) = search rules in
     let w = a.word.now in
-    c.starts_with.ensures.value ∙ starts_word c.in-Some.rest.now w ∙ rw (r, rest_is) (word_here a.text.now a.i w)
+    c.starts.ensures ∙ rw (r, rest_is) (word_here a.text.now a.i w)
