@@ -106,9 +106,7 @@ fn italic_step(reading: Reading, text: &[u8], i: usize) -> Step
     }
 }
 
-// The first place from `from` on at which the rule stops, or the end. By index: a step is one byte or two. Inlined before all else: the
-// rule's text is then seen to be this one, and whether it has ended is not asked twice at each byte.
-#[inline(always)]
+// The first place from `from` on at which the rule stops, or the end. By index: a step is one byte or two.
 fn scan<F: Fn(usize) -> Step>(text: &[u8], from: usize, rule: F) -> usize
     requires { F.IsAlwaysCallable rule }
     ensures { (step : ℕ → Step) → SaysAt (F.post rule) step → result ≡ scan step (length text.now) from }
