@@ -3,19 +3,22 @@
 -- Assumes nothing.
 use Prim.Native.Nat.{ℕ, ◌+◌, ◌≤◌, ◌<◌}
 use mathlib.Core.Bool.{Bool, true, false}
-use mathlib.Core.Path.{◌≡◌, refl}
+use mathlib.Core.Path.{◌≡◌, refl, ◌∙◌}
 use mathlib.Core.List.{List}
 use native.Mathlib.Nat.{le_refl}
 use native.Mathlib.Omega.{arith}
 use lib.ListN.{length}
+use lib.Dec.{ltb}
+use borrow.Author.Tests.{ltb-true, ltb-false}
+use Rattle.std.specs.Prelude.{min}
 use Rattle.basics.proofs.Laws.{differ}
 use Rattle.look.specs.Look.{byte_at, blank_at}
-use Rattle.look.proofs.Laws.{blank_past}
+use Rattle.look.proofs.Laws.{blank_past, blank_within}
 use Rattle.scans.specs.Marks.{rbracket}
 use Rattle.scans.specs.Ends.{blanks_step, blanks_end, tag_stop, tag_end}
 use Rattle.std.specs.Prelude.{Some, None}
 use Rattle.scans.specs.declared.Step.TheVariants.{One, Stop}
-use Rattle.scans.proofs.Laws.{Leads, by_one, stops, scanned, scan_ge, scan_le, by_less, clash}
+use Rattle.scans.proofs.Laws.{Leads, by_one, stops, scanned, scan_end, scan_one, scan_stop, scan_ge, scan_le, by_less, clash}
 
 module _ (s : List ℕ) (i : ℕ) where
   -- blanks alone from i up to j
@@ -50,6 +53,19 @@ module _ (s : List ℕ) (i : ℕ) where
   -- and there stands none
   pub blanks_stopped : blank_at s (blanks_end s i) ≡ false
   blanks_stopped = blanks_stop.1
+
+-- a loop over blanks: from a blank on the end of blanks is that from the next place on; where no blank stands it is there, or at the text's end
+pub blanks_on : (s : List ℕ) (i : ℕ) → blank_at s i ≡ true → blanks_end s i ≡ blanks_end s (i + 1)
+unfolding blanks_step
+blanks_on s i h = scan_one (blanks_step s) (length s) i (blank_within s i h) (rw (blanks_step, h))
+
+pub blanks_over : (s : List ℕ) (i : ℕ) → blank_at s i ≡ false → blanks_end s i ≡ min i (length s)
+unfolding blanks_step
+blanks_over s i h = go (ltb i (length s)) refl
+  where
+    go : (t : Bool) → ltb i (length s) ≡ t → blanks_end s i ≡ min i (length s)
+    go true e = let k = ltb-true i (length s) e in scan_stop (blanks_step s) (length s) i k (rw (blanks_step, h)) ∙ omega (arith, k)
+    go false e = let k = ltb-false i (length s) e in scan_end (blanks_step s) (length s) i k ∙ omega (arith, k)
 
 -- where blanks alone are left they go to the end
 pub blanks_to_end : (s : List ℕ) (i : ℕ) → i ≤ length s → ((k : ℕ) → i ≤ k → k < length s → blank_at s k ≡ true) → blanks_end s i ≡ length s

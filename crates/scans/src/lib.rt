@@ -8,7 +8,7 @@ pub mod plain;
 ghost use Rattle.std.specs.Prelude.{◌≡◌, ℕ, Some, None, length};
 ghost use Rattle.byte_rules.specs.Reading.{named};
 ghost use Rattle.scans.specs.Scan.{scan, SaysAt};
-ghost use Rattle.scans.specs.Ends.{blanks_step, tag_step, subscript_step, italic_step, blanks_end, tag_stop, subscript_end, closes_italic, italic_end};
+ghost use Rattle.scans.specs.Ends.{tag_step, subscript_step, italic_step, blanks_end, tag_stop, subscript_end, closes_italic, italic_end};
 ghost use Rattle.scans.specs.declared.Step.{Step};
 ghost use Rattle.scans.specs.Notes.{covers};
 
@@ -51,17 +51,6 @@ impl Note {
 pub struct Noted<T> {
     pub value: T,
     pub note: Note,
-}
-
-#[tactic(auto, unfolding(crate::specs::Ends::blanks_step))]
-fn blanks_step(text: &[u8], i: usize) -> Step
-    ensures { result ≡ blanks_step text.now i }
-{
-    if blank_at(text, i) {
-        Step::One
-    } else {
-        Step::Stop
-    }
 }
 
 // Most bytes are small letters, which no tag ends at.
@@ -122,11 +111,15 @@ fn scan<F: Fn(usize) -> Step>(text: &[u8], from: usize, rule: F) -> usize
     text.len()
 }
 
-// The first place from `from` on that is no blank.
+// The first place from `from` on that is no blank. A loop of its own: `scan` asks at each byte for the text's end, and the rule asks again.
 pub fn blanks_end(text: &[u8], from: usize) -> usize
     ensures { result ≡ blanks_end text.now from }
 {
-    scan(text, from, |i| blanks_step(text, i))
+    let mut i = from;
+    while blank_at(text, i) {
+        i += 1;
+    }
+    i.min(text.len())
 }
 
 // Where the search for the `]` of a tag whose text begins at `from` stops: at the `]`, or where it fails.
