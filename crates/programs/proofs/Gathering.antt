@@ -1,5 +1,6 @@
 -- The laws of gathered output:
 --     push_room, push_full, push_none    one byte: there is room for it, the buffer is full, the buffer has no bytes
+--     gathered_fits, copied              a text for which there is room, and a copy of it behind what waits
 --     gathered_then, gather_both         a text behind another
 --     gather_on, gather_end              a loop that gathers piece by piece: a turn, and the end
 --     gathers_both                       of writers: a text behind another
@@ -13,11 +14,13 @@ use mathlib.Core.List.{List, [], ◌∷◌, ◌++◌, append_assoc, append-nil}
 use native.Mathlib.Omega.{arith}
 use native.Mathlib.Numerals.{add-one}
 use lib.Dec.{ltb}
+use Rattle.std.specs.Borrow.{MutBor}
 use Rattle.std.specs.Result.{IsOk}
-use lib.ListN.{length, set, take}
-use lib.Seq.{length-take-le, take_all, take-nil, take-suc-set}
+use lib.ListN.{length, length-append, set, take}
+use lib.Seq.{length-take-le, paste, take-length, take-paste, take_all, take-nil, take-suc-set}
 use borrow.Author.Tests.{lt-ltb, le-ltb}
-use Rattle.programs.specs.Output.{waiting, pushed, gathered, SameBuffer, Gathers}
+use Rattle.programs.specs.Buffers.{SameBuffer}
+use Rattle.programs.specs.Output.{waiting, pushed, gathered, Gathers}
 use Rattle.programs.specs.declared.writing.Writer.{Writer}
 
 module _ (buffer : List ℕ) (used b : ℕ) where
@@ -38,6 +41,20 @@ module _ (buffer : List ℕ) (used b : ℕ) where
     unfolding gathered pushed
     push_none h = rw (take_all used buffer full, le-ltb (length buffer) (length buffer) (omega arith), h)
 
+-- a text for which there is room waits behind what waited
+gathered_fits : (room : ℕ) (old text : List ℕ) → length old + length text ≤ room → gathered room old text ≡ old ++ text
+unfolding gathered pushed
+gathered_fits room old [] h = sym (append-nil old)
+gathered_fits room old (b ∷ bs) h =
+    let one : pushed room old b ≡ old ++ (b ∷ []) = rw (lt-ltb (length old) room (omega arith)) in
+    ap (λ (t : List ℕ). gathered room t bs) one ∙ gathered_fits room (old ++ (b ∷ [])) bs (omega (arith, length-append old (b ∷ []))) ∙ append_assoc old (b ∷ []) bs
+
+pub copied : (buffer : List ℕ) (used : ℕ) (text : List ℕ) → used + length text ≤ length buffer
+    → take (used + length text) (paste buffer used text (length text)) ≡ gathered (length buffer) (take used buffer) text
+copied buffer used text h =
+    take-paste buffer used text (length text) (omega arith) (omega arith)
+    ∙ rw (take-length text, gathered_fits (length buffer) (take used buffer) text (omega (arith, length-take-le used buffer (omega arith))))
+
 pub gathered_then : (room : ℕ) (old a b : List ℕ) → gathered room (gathered room old a) b ≡ gathered room old (a ++ b)
 unfolding gathered
 gathered_then room old [] b = refl
@@ -55,7 +72,7 @@ pub gather_end : (room : ℕ) (old rest : List ℕ) {to : List ℕ} → rest ≡
 unfolding gathered
 gather_end room old rest none is = rw none at is
 
-same_then : {w m r : Writer} → SameBuffer w m → SameBuffer m r → SameBuffer w r
+same_then : {w m r : MutBor (List ℕ)} → SameBuffer w m → SameBuffer m r → SameBuffer w r
 same_then a b = record { name = b.name ∙ a.name; long = b.long ∙ a.long }
 
 -- what waits in a writer's buffer
@@ -70,7 +87,7 @@ gathers_both a b {w} {m} {r} one two =
 pub record Gathering (rest all : List ℕ) (w r : Writer) : Type 0 where
   pub is : gathered (length w.buffer.now) (held r) rest ≡ gathered (length w.buffer.now) (held w) all
   pub kept : IsOk r.output.so_far → IsOk w.output.so_far
-  pub buffer : SameBuffer w r
+  pub buffer : SameBuffer w.buffer r.buffer
 
 pub gathering_starts : (all : List ℕ) (w : Writer) → Gathering all all w w
 gathering_starts all w = record { is = refl; kept = λ h. h; buffer = record { name = refl; long = refl } }

@@ -1,13 +1,8 @@
 -- What was read of standard input.
-use Rattle.std.specs.Prelude.{◌≡◌, ◌≤◌, length}
+use Rattle.std.specs.Prelude.{◌≤◌, length}
 use Rattle.programs.specs.declared.reading.Reader.{Reader}
 
 -- what is left to take stands in the buffer
 pub record Within (r : Reader) : Type 0 where
   pub order : r.source.at ≤ r.source.end
   pub inside : r.source.end ≤ length r.buffer.now
-
--- both hold one and the same buffer, and it is as long as it was
-pub record SameBuffer (r s : Reader) : Type 0 where
-  pub name : s.buffer.ghost_name ≡ r.buffer.ghost_name
-  pub long : length s.buffer.now ≡ length r.buffer.now

@@ -1,3 +1,4 @@
+pub mod Buffers
 pub mod Input
 pub mod Output
 pub mod Lines

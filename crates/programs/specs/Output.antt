@@ -1,5 +1,6 @@
 -- Output that is gathered in a lent buffer: what waits there to be written.
 use Rattle.std.specs.Prelude.{ℕ, ◌≡◌, cond, List, [], ◌∷◌, ◌++◌, ltb, length, take, IsOk}
+use Rattle.programs.specs.Buffers.{SameBuffer}
 use Rattle.programs.specs.declared.writing.Output.{Output}
 use Rattle.programs.specs.declared.writing.Writer.{Writer}
 
@@ -20,13 +21,8 @@ gathered room old (b ∷ bs) = gathered room (pushed room old b) bs
 abbrev pub Waits : List ℕ → Output → List ℕ → Output → List ℕ → Type 0
 Waits text o buffer r out = waiting r out ≡ gathered (length buffer) (waiting o buffer) text
 
--- both writers have one and the same buffer, and it is as long as it was
-pub record SameBuffer (w r : Writer) : Type 0 where
-  pub name : r.buffer.ghost_name ≡ w.buffer.ghost_name
-  pub long : length r.buffer.now ≡ length w.buffer.now
-
--- from the one writer to the other a text was gathered, and where a write had failed none counts as done well
+-- from the one writer to the other, of one buffer, a text was gathered, and where a write had failed none counts as done well
 pub record Gathers (text : List ℕ) (w r : Writer) : Type 0 where
   pub waits : Waits text w.output w.buffer.now r.output r.buffer.now
   pub kept : IsOk r.output.so_far → IsOk w.output.so_far
-  pub buffer : SameBuffer w r
+  pub buffer : SameBuffer w.buffer r.buffer

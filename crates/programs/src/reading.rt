@@ -1,6 +1,7 @@
 // Standard input.
 ghost use Rattle.std.specs.Prelude.{◌≡◌, ◌+◌, ◌≤◌, length, IfOk, None};
-ghost use Rattle.programs.specs.Input.{SameBuffer, Within};
+ghost use Rattle.programs.specs.Buffers.{SameBuffer};
+ghost use Rattle.programs.specs.Input.{Within};
 
 use std::io::{Error, Read, Result, Stdin};
 
@@ -55,7 +56,7 @@ impl Reader<'_> {
     // Reads if nothing of the buffer is left to take. Where nothing is left then, the input ends or a read failed.
     pub fn ready(&mut self)
         ensures within { Within self.new }
-        ensures buffer { SameBuffer self.old self.new }
+        ensures buffer { SameBuffer self.old.buffer self.new.buffer }
     {
         if self.source.at < self.source.end && self.source.end <= self.buffer.len() {
             return;
@@ -76,7 +77,7 @@ impl Reader<'_> {
         ensures there { self.old.source.at + result ≤ self.old.source.end }
         ensures taken { (self.new.source.at ≡ self.old.source.at + result) × (self.new.source.end ≡ self.old.source.end) }
         ensures count { result ≤ length to.new }
-        ensures buffer { SameBuffer self.old self.new }
+        ensures buffer { SameBuffer self.old.buffer self.new.buffer }
     {
         let Source { at, end, .. } = self.source;
         let n = to.len().min(end - at);
@@ -88,7 +89,7 @@ impl Reader<'_> {
     // Takes bytes until `to` is full or the input ends, and counts them.
     pub fn take(&mut self, to: &mut [u8]) -> usize
         ensures count { result ≤ length to.new }
-        ensures buffer { SameBuffer self.old self.new }
+        ensures buffer { SameBuffer self.old.buffer self.new.buffer }
     {
         let mut done = 0;
         // So many as were there, and on from there.

@@ -1,7 +1,8 @@
 // Standard output, gathered in a buffer that the program lends, and written a buffer at a time.
 ghost use Rattle.std.specs.Prelude.{◌≡◌, ◌≤◌, [], ◌∷◌, length, IsOk, Ok};
 ghost use Rattle.decimal.specs.Decimal.{decimal};
-ghost use Rattle.programs.specs.Output.{Waits, Gathers, SameBuffer};
+ghost use Rattle.programs.specs.Buffers.{SameBuffer};
+ghost use Rattle.programs.specs.Output.{Waits, Gathers};
 
 use decimal::put_number;
 use std::io::{Result, Stdout};
@@ -91,7 +92,23 @@ impl Writer<'_> {
         self.output.byte(self.buffer, b);
     }
 
+    // Bytes more: in one copy, where the buffer has room for them and for one byte behind them.
     pub fn text(&mut self, text: &[u8])
+        ensures { Gathers text.now self.old self.new }
+    {
+        let used = self.output.used;
+        if text.len() < self.buffer.len().saturating_sub(used) {
+            let end = used + text.len();
+            self.buffer[used..end].copy_from_slice(text);
+            self.output.used = end;
+        } else {
+            self.bytes(text);
+        }
+    }
+
+    // Bytes more, one by one. Apart from `text`, which seldom comes to it.
+    #[cold]
+    fn bytes(&mut self, text: &[u8])
         ensures { Gathers text.now self.old self.new }
     {
         for b in text {
@@ -113,7 +130,7 @@ impl Writer<'_> {
         ensures good { IsOk result → IsOk self.old.output.so_far }
         ensures so_far { result ≡ self.new.output.so_far }
         ensures empty { self.new.output.used ≡ 0 }
-        ensures buffer { SameBuffer self.old self.new }
+        ensures buffer { SameBuffer self.old.buffer self.new.buffer }
     {
         let mut output = self.output;
         let flushed = output.flush(self.buffer);

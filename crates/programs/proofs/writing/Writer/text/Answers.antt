@@ -1,20 +1,18 @@
--- A byte is gathered, and then the rest of the text.
-use Rattle.std.proofs.Common.{arith, ◌+◌, [], ◌∷◌, get_or, drop}
-use Rattle.std.proofs.Math.ListN.{drop_of_length-le}
-use Rattle.programs.proofs.Gathering.{gathering_starts, gathering_on, gathering_end}
-use Rattle.programs.proofs.Listed.{text_at}
+-- There is room for the text: it is copied behind what waits.
+use Rattle.std.proofs.Common.{arith, ◌+◌, ◌-◌, refl, length}
+use Rattle.std.proofs.lemmas.Slice.{put_mid-paste}
+use Rattle.std.proofs.lemmas.List.Edits.{length-paste}
+use Rattle.programs.proofs.Gathering.{copied}
 use Rattle.programs.proofs.writing.Writer.text.Goals as goal
 
-pub loop-b-init : goal.loop-b-init
-loop-b-init c = gathering_starts c.args.text.now c.args.self.now
-
-pub loop-b-preserved : goal.loop-b-preserved
-loop-b-preserved c =
-    let l = c.loop-b in
+pub returns-then-text-saturating_sub : goal.returns-then-text-saturating_sub
+returns-then-text-saturating_sub c =
     let text = c.args.text.now in
-    gathering_on (get_or text l.b-index 0 ∷ []) (drop (l.b-index + 1) text) (text_at text l.b-index (omega arith)) c.byte.ensures l.invariant
-
-pub returns : goal.returns
-returns c =
-    let l = c.loop-b in
-    gathering_end (drop_of_length-le c.args.text.now {i = l.b-index} (omega arith)) l.invariant
+    let buffer = c.args.self.now.buffer.now in
+    let used = c.args.self.now.output.used in
+    let written = put_mid-paste used (used + length text - used) buffer c.copy_from_slice.new.self text (length text) c.copy_from_slice.ensures.after (omega arith) refl in
+    record {
+      waits = rw written (copied buffer used text (omega arith));
+      kept = λ h. h;
+      buffer = record { name = refl; long = rw written (length-paste buffer used text (length text) (omega arith) (omega arith)) };
+    }
