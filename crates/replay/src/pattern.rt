@@ -1,5 +1,5 @@
 // What a room holds before a call, and what a call touched of it.
-ghost use Rattle.std.specs.Prelude.{◌≡◌, ℕ, ◌+◌, ◌%◌, length};
+ghost use Rattle.std.specs.Prelude.{◌≡◌, ◌<◌, ℕ, ◌+◌, ◌%◌, length};
 ghost use Rattle.replay.specs.Pattern.{pattern_to};
 
 use programs::Writer;
@@ -8,16 +8,25 @@ use programs::Writer;
 pub trait Pattern: Copy + PartialEq {
     ghost at: { ℕ → Self };
 
+    // After how many the pattern begins anew.
+    fn period() -> usize
+        ensures some { 0 < result }
+        ensures anew { (i : ℕ) → at (i + result) ≡ at i };
+
     fn pattern(i: usize) -> Self
         ensures { result ≡ at i };
 
-    // What the next one holds: a room is gone through by it, since no index is divided.
+    // What the next one holds: to go on by it is cheaper than to divide each index.
     fn after(self) -> Self
         ensures { (i : ℕ) → self ≡ at i → result ≡ at (i + 1) };
 }
 
 impl Pattern for u8 {
     ghost at = { λ i. i % 255 + 1 };
+
+    fn period() -> usize {
+        255
+    }
 
     fn pattern(i: usize) -> u8 {
         (i % 255) as u8 + 1
@@ -31,6 +40,10 @@ impl Pattern for u8 {
 impl Pattern for u32 {
     ghost at = { λ i. i % 65521 + 1 };
 
+    fn period() -> usize {
+        65521
+    }
+
     fn pattern(i: usize) -> u32 {
         (i % 65521) as u32 + 1
     }
@@ -40,14 +53,17 @@ impl Pattern for u32 {
     }
 }
 
-// By index, as in `put_touched`.
+// The first period, and then each as the one a period before it: both loops are compiled to many at a time.
 pub fn fill<T: Pattern>(room: &mut [T])
     ensures { room.new ≡ pattern_to T.at (length room.old) }
 {
-    let mut next = T::pattern(0);
-    for i in 0..room.len() {
-        room[i] = next;
-        next = next.after();
+    let period = T::period();
+    let first = room.len().min(period);
+    for i in 0..first {
+        room[i] = T::pattern(i);
+    }
+    for i in first..room.len() {
+        room[i] = room[i - period];
     }
 }
 

@@ -1,26 +1,28 @@
--- A byte's two digits are gathered, and then the rest of the bytes.
-use Rattle.std.proofs.Common.{arith, [], ◌∷◌, ◌++◌, ◌+◌, ◌/◌, ◌%◌, get_or, drop}
-use Rattle.std.proofs.Math.ListN.{drop_of_length-le}
-use Rattle.programs.proofs.Gathering.{gathers_both, gathering_starts, gathering_on, gathering_end}
-use Rattle.replay.specs.Hex.{digit_of, hex_of}
-use Rattle.replay.proofs.Hex.{hex_at}
+-- A piece's digits are gathered, and then those of the rest of the bytes.
+use Rattle.std.proofs.Common.{rules, ◌≡◌, ◌∙◌, ◌++◌, ap, length}
+use Rattle.std.proofs.lemmas.List.{nil_from_length}
+use Rattle.std.specs.Slice.Iter.{chunks_rest}
+use Rattle.programs.proofs.Gathering.{gathering_starts, gathering_on, gathering_end}
+use Rattle.replay.specs.Hex.{hex_of}
+use Rattle.replay.proofs.Hex.{hex_append}
 use Rattle.replay.proofs.output.put_hex.Goals as goal
 
-pub loop-b-init : goal.loop-b-init
-loop-b-init c = gathering_starts (hex_of c.args.bytes.now) c.args.output.now
+pub loop-piece-init : goal.loop-piece-init
+loop-piece-init c =
+    let e : chunks_rest c.into_iter-piece-iterator.result ≡ c.args.bytes.now = search rules in
+    (search rules, tt, search rules, rw e (gathering_starts (hex_of c.args.bytes.now) c.args.output.now))
 
-pub loop-b-preserved : goal.loop-b-preserved
-loop-b-preserved c =
-    let l = c.loop-b in
-    let bytes = c.args.bytes.now in
-    let b = get_or bytes l.b-index 0 in
-    let high = rw c.digit.ensures at c.byte.ensures in
-    let low = rw c.digit-in-loop-b.ensures at c.byte-in-loop-b.ensures in
-    gathering_on ((digit_of (b / 16) ∷ []) ++ (digit_of (b % 16) ∷ [])) (hex_of (drop (l.b-index + 1) bytes)) (hex_at bytes l.b-index (omega arith))
-    (gathers_both (digit_of (b / 16) ∷ []) (digit_of (b % 16) ∷ []) high low) l.invariant
+pub loop-piece-preserved : goal.loop-piece-preserved
+loop-piece-preserved c =
+    let piece = c.in-Some.piece.now in
+    let rest = chunks_rest c.next.new.self in
+    let e : chunks_rest c.loop-piece.piece-iterator ≡ piece ++ rest = search rules in
+    let digits = rw c.put_piece.ensures at c.text.ensures in
+    (search rules, tt, search rules, gathering_on (hex_of piece) (hex_of rest) (ap hex_of e ∙ hex_append piece rest) digits c.loop-piece.invariant.3)
 
 pub returns : goal.returns
 unfolding hex_of
 returns c =
-    let l = c.loop-b in
-    gathering_end (rw (drop_of_length-le c.args.bytes.now {i = l.b-index} (omega arith))) l.invariant
+    let rest = chunks_rest c.loop-piece.piece-iterator in
+    let none : length rest ≡ 0 = search rules in
+    gathering_end (ap hex_of (nil_from_length rest none)) c.loop-piece.invariant.3
