@@ -92,7 +92,7 @@ impl Writer<'_> {
         self.output.byte(self.buffer, b);
     }
 
-    // Bytes more: in one copy, where the buffer has room for them and for one byte behind them.
+    // Bytes more: in one copy, where they leave room in the buffer (so not where `used` lies behind its end).
     pub fn text(&mut self, text: &[u8])
         ensures { Gathers text.now self.old self.new }
     {

@@ -21,7 +21,7 @@ fn digit(n: u8) -> u8
     if n < 10 { b'0' + n } else { b'a' + (n - 10) }
 }
 
-// Bytes in hex at the front of `digits`. By index and apart from the output: so it is compiled to sixteen bytes at a time.
+// Bytes in hex at the front of `digits`. By index and apart from the output: so it is compiled to sixteen digits at a time.
 fn put_piece(piece: &[u8], digits: &mut [u8])
     requires { 2 * length piece.now ≤ length digits.old }
     ensures { take (2 * length piece.now) digits.new ≡ hex_of piece.now }

@@ -16,7 +16,7 @@ pub trait Pattern: Copy + PartialEq {
     fn pattern(i: usize) -> Self
         ensures { result ≡ at i };
 
-    // What the next one holds: to go on by it is cheaper than to divide each index.
+    // What the next one holds: `put_touched` goes on by it, and divides no index.
     fn after(self) -> Self
         ensures { (i : ℕ) → self ≡ at i → result ≡ at (i + 1) };
 }
@@ -53,7 +53,7 @@ impl Pattern for u32 {
     }
 }
 
-// The first period, and then each as the one a period before it: both loops are compiled to many at a time.
+// The first period, where compiled code divides no index, and then each as the one a period before it: both loops are compiled to many at a time.
 pub fn fill<T: Pattern>(room: &mut [T])
     ensures { room.new ≡ pattern_to T.at (length room.old) }
 {
