@@ -14,11 +14,11 @@ ghost use Rattle.byte_rules.specs.Classes.{is_credit_space, is_author_byte, is_t
 use classes::{ALPHANUMERIC, BLANK, CLOSER, ITALIC_OPENER, mask};
 pub use reading::Reading;
 
-// Tab, LF, form feed, CR, space: from the space on, the space alone.
+// Tab, LF, form feed, CR, space.
 pub fn is_blank(c: u8) -> bool
     ensures { result ≡ is_blank c }
 {
-    c == b' ' || c < b' ' && mask(c) & BLANK != 0
+    mask(c) & BLANK != 0
 }
 
 // What may follow a subscript, a closing backtick or a label.
