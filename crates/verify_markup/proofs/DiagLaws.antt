@@ -9,11 +9,11 @@ use native.Mathlib.Omega.{arith}
 use lib.ListN.{length, get_or, length-append}
 use Rattle.byte_rules.specs.Classes.{is_blank}
 use Rattle.look.proofs.Laws.{holds_in, holds_past}
-use Rattle.records.specs.Records.{laid, used, wrote_of, sum, wrapped_sum}
+use Rattle.records.specs.Records.{laid, used, wrote_of, sum}
 use Rattle.records.specs.declared.Wrote.{Wrote}
 use Rattle.records.proofs.Laws.{Wide, laid_long}
 use Rattle.records.proofs.Laying.{Laying, tail, back, laying_wrote, all_wrote, all_laid}
-use Rattle.records.proofs.Both.{both_wrote, both_laid, sum_fits}
+use Rattle.records.proofs.Both.{both_wrote, both_laid}
 use Rattle.verify_markup.specs.Words.{words_of, words_if, Writes}
 use Rattle.verify_markup.specs.declared.diagnostic.Diagnostic.{Diagnostic}
 use Rattle.verify_markup.specs.declared.diagnostic.Diagnostic.TheVariants.{MarkupNeedsWhitespace, UninterpretedEscape, UninterpretedHtml, UndefinedToken, EmptyLabel, UnknownLabel, BibEscape, UndefinedBibTag, UnclosedMathMarkup, UnclosedHtml}
@@ -121,9 +121,9 @@ module _ {m n : ℕ} {ws vs : List (List ℕ)} (p : Few m ws) (q : Few n vs) {ro
   pair_fits long few = (omega (arith, pair_writes.inside, pair_writes.long), omega (arith, writes_few p first, writes_few q second))
 
   -- their sum, by what `then` tells of it
-  pub pair_told : length room < 2 ^ 63 → m + n < 2 ^ 63 → {r : Wrote} → r ≡ wrapped_sum a b
+  pub pair_told : length room < 2 ^ 63 → m + n < 2 ^ 63 → {r : Wrote} → ((a.words + b.words < 2 ^ 64) × (a.count + b.count < 2 ^ 64) → r ≡ sum a b)
       → Writes (ws ++ vs) room (back a.words mid last) r
-  pair_told long few told = rw (sum_fits a b told (pair_fits long few)) pair_writes
+  pair_told long few told = rw (told (pair_fits long few)) pair_writes
 
 -- a turn of a loop that lays a record if a test holds: w before it, v of the record, and r after it
 module _ {all rest : List (List ℕ)} {out₀ out : List ℕ} {w v : Wrote} (t t' : Bool) (same : t ≡ t') (one : List ℕ) (wide : length one ≡ diag_width)
@@ -134,11 +134,11 @@ module _ {all rest : List (List ℕ)} {out₀ out : List ℕ} {w v : Wrote} (t t
       laying_wrote (when t one) rest last to_come_lem (few_when t one wide).wide did.left v did.told
 
   -- the sum fits, so that one record more is counted at most
-  pub turn_laid : length out₀ < 2 ^ 63 → w.count < 2 ^ 63 → {r : Wrote} → r ≡ wrapped_sum w v
+  pub turn_laid : length out₀ < 2 ^ 63 → w.count < 2 ^ 63 → {r : Wrote} → ((w.words + v.words < 2 ^ 64) × (w.count + v.count < 2 ^ 64) → r ≡ sum w v)
       → (r.count ≤ w.count + 1) × Laying diag_width all rest out₀ (back w.words out last) r.words r.count
   turn_laid long few {r} is =
       let one_more = writes_few (few_when t one wide) did in
-      let both = sum_fits w v is (omega (arith, turned.0, l.long), omega (arith, one_more)) in
+      let both = is (omega (arith, turned.0, l.long), omega (arith, one_more)) in
       (omega (arith, one_more, ap (λ (x : Wrote). x.count) both), rw both turned.1)
 
 -- at its end nothing is to come

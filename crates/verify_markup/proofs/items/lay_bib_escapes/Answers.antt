@@ -3,6 +3,7 @@
 use Rattle.std.proofs.Common.{◌≡◌, ◌-◌, refl, arith}
 use mathlib.Core.Bool.{Bool, ◌||◌}
 use Rattle.look.specs.Look.{byte_at}
+use Rattle.records.proofs.Both.{sum_fits}
 use Rattle.scans.specs.Marks.{tick, tilde}
 use Rattle.verify_markup.specs.Diag.{bib_escape}
 use Rattle.verify_markup.proofs.DiagLaws.{turn_laid, all_writes}
@@ -19,7 +20,7 @@ loop-i-preserved c =
     let same : t ≡ u = rw (c.byte_at.ensures, c.byte_at-in-loop-i.ensures) in
     let to_come = rw (escapes_on b s.start s.end i c.loop-i-test.true) at c.loop-i.invariant.2 in
     let one = bib_escape i s.start s.end in
-    let turned = turn_laid t u same one refl to_come c.lay_if-one.ensures (omega (arith, c.well_formed)) (omega (arith, c.loop-i.invariant.0, c.loop-i.invariant.1, c.args.part.in_buf)) c.then-wrote.ensures in
+    let turned = turn_laid t u same one refl to_come c.lay_if-one.ensures (omega (arith, c.well_formed)) (omega (arith, c.loop-i.invariant.0, c.loop-i.invariant.1, c.args.part.in_buf)) (sum_fits _ _ c.then-wrote.ensures) in
     (omega (arith, turned.0, c.loop-i.invariant.0), omega arith, turned.1)
 
 pub returns : goal.returns

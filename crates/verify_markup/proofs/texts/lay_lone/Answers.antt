@@ -4,6 +4,7 @@ use Rattle.std.proofs.Common.{◌≡◌, ◌-◌, ◌+◌, ◌≤◌, ℕ, List,
 use native.Mathlib.Nat.{le_refl}
 use lib.Seq.{length-take-le}
 use Rattle.records.proofs.Laying.{laying_starts}
+use Rattle.records.proofs.Both.{sum_fits}
 use Rattle.scans.specs.Plain.{plain_step, plain_end}
 use Rattle.scans.proofs.Laws.{scan_ge}
 use Rattle.unescape.specs.Unescape.{is_escape, step_at}
@@ -59,7 +60,7 @@ loop-i-preserved c =
     let u = lone_at b c.args.kind i in
     let to_come = rw (lone_on b c.args.kind p.span.end i c.loop-i-test.true) at c.loop-i.invariant.1 in
     let one = uninterpreted_escape i in
-    let turned = turn_laid t u c.lone_at-lone.ensures one refl to_come c.lay_if-one.ensures (omega (arith, c.well_formed)) (omega (arith, c.loop-i.invariant.0, c.loop-i-test.true, p.in_buf)) c.then-wrote.ensures in (
+    let turned = turn_laid t u c.lone_at-lone.ensures one refl to_come c.lay_if-one.ensures (omega (arith, c.well_formed)) (omega (arith, c.loop-i.invariant.0, c.loop-i-test.true, p.in_buf)) (sum_fits _ _ c.then-wrote.ensures) in (
       omega (arith, later c, turned.0, c.loop-i.invariant.0),
       rw (← lone_skip b c.args.kind p.span.end p.in_buf.inside _ c.plain_end-i-in-loop-i.result (from c)) turned.1,
     )
