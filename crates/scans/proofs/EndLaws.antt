@@ -1,5 +1,5 @@
 -- What stands where a search stopped: blanks alone lie before the end of blanks and none stands there, or the text ends there; at a tag's end stands
--- its `]`.
+-- its `]`; an italic's first byte lies before its end.
 -- Assumes nothing.
 use Prim.Native.Nat.{ℕ, ◌+◌, ◌≤◌, ◌<◌}
 use mathlib.Core.Bool.{Bool, true, false}
@@ -12,10 +12,11 @@ use lib.Dec.{ltb}
 use borrow.Author.Tests.{ltb-true, ltb-false}
 use Rattle.std.specs.Prelude.{min}
 use Rattle.basics.proofs.Laws.{differ}
-use Rattle.look.specs.Look.{byte_at, blank_at}
-use Rattle.look.proofs.Laws.{blank_past, blank_within}
+use Rattle.byte_rules.specs.Reading.{Reading}
+use Rattle.look.specs.Look.{byte_at, blank_at, alphanumeric_at}
+use Rattle.look.proofs.Laws.{blank_past, blank_within, alphanumeric_within}
 use Rattle.scans.specs.Marks.{rbracket}
-use Rattle.scans.specs.Ends.{blanks_step, blanks_end, tag_stop, tag_end}
+use Rattle.scans.specs.Ends.{blanks_step, blanks_end, tag_stop, tag_end, italic_step, italic_stop}
 use Rattle.std.specs.Prelude.{Some, None}
 use Rattle.scans.specs.declared.Step.TheVariants.{One, Stop}
 use Rattle.scans.proofs.Laws.{Leads, by_one, stops, scanned, scan_end, scan_one, scan_stop, scan_ge, scan_le, by_less, clash}
@@ -82,3 +83,7 @@ found false j q h = absurd (differ cc)
 pub tag_closed : (s : List ℕ) (i q : ℕ) → tag_end s i ≡ Some q → byte_at s q rbracket ≡ true
 unfolding tag_end
 tag_closed s i q h = let f = found (byte_at s (tag_stop s i) rbracket) (tag_stop s i) q h in rw f.1 at f.0
+
+-- the search for an italic's end stops behind its first byte, so that the byte before the `_` is another one, and not the `_` itself
+pub italic_later : (rd : Reading) (s : List ℕ) (i : ℕ) → alphanumeric_at s i ≡ true → i + 1 ≤ italic_stop rd s (i + 1)
+italic_later rd s i t = scan_ge (italic_step rd s) (length s) (i + 1) (i + 1) (le_refl (i + 1)) (omega (arith, alphanumeric_within s i t))

@@ -4,7 +4,6 @@ use Prim.Native.Nat.{ℕ, ◌+◌, ◌-◌, ◌≤◌, ◌<◌}
 use mathlib.Core.Bool.{Bool, true, false, ◌&&◌, ◌||◌, not}
 use mathlib.Core.List.{List}
 use mathlib.Core.Path.{◌≡◌, refl, sym, ◌∙◌}
-use native.Mathlib.Nat.{le_refl}
 use native.Mathlib.Omega.{arith}
 use borrow.Author.Tests.{ltb-true}
 use lib.Dec.{ltb}
@@ -18,8 +17,8 @@ use Rattle.look.specs.Look.{holds_at, byte_at, blank_at, closer_at, alphanumeric
 use Rattle.look.proofs.Laws.{holds_in, byte_test, byte_other, not_byte, other_byte, doubled_not, alphanumeric_within}
 use Rattle.scans.specs.Marks.{tick, tilde, lbracket, under, less, lf}
 use Rattle.scans.specs.Ends.{subscript_step, italic_step, subscript_stop, subscript_end, italic_stop, italic_end, closes_italic}
-use Rattle.scans.proofs.EndLaws.{found}
-use Rattle.scans.proofs.Laws.{Leads, by_one, stops, scanned, by_less, scan_one, scan_two, scan_stop, scan_ge, scan_le}
+use Rattle.scans.proofs.EndLaws.{found, italic_later}
+use Rattle.scans.proofs.Laws.{Leads, by_one, stops, scanned, by_less, scan_one, scan_two, scan_stop, scan_le}
 
 -- BYTES
 
@@ -153,9 +152,7 @@ module _ (s : List ℕ) (i : ℕ) (t : alphanumeric_at s i ≡ true) where
       let j = italic_stop strict s (i + 1) in
       let f = found (byte_at s j under && alphanumeric_at s (j - 1) && not (alphanumeric_at s (j + 1))) j q e in
       let k = both (byte_at s j under) (alphanumeric_at s (j - 1)) (both _ (not (alphanumeric_at s (j + 1))) f.0).0 in
-      let h = alphanumeric_within s i t in
-      let g : i + 1 ≤ j = scan_ge (italic_step strict s) (length s) (i + 1) (i + 1) (le_refl (i + 1)) (omega arith) in
-      record { ends = first_one ∙ f.1; up = omega (arith, f.1); closed = rw f.1 at k.0 }
+      record { ends = first_one ∙ f.1; up = omega (arith, f.1, italic_later strict s i t); closed = rw f.1 at k.0 }
 
 pub italic_text : (s : List ℕ) (i q : ℕ) → italic_end strict s i ≡ Some q → ItalicText s i q
 unfolding italic_end
